@@ -1,0 +1,51 @@
+-- The number that document 01 gives to each refusal ("Who can be turned down") and each stop ("Central turn", "Peripheral turn"). Assumes nothing.
+use Prim.Native.Nat.{ℕ}
+use Rattle.outcome.specs.declared.refusal.Refusal.{Refusal}
+use Rattle.outcome.specs.declared.refusal.Refusal.the-variants as Refused
+use Rattle.outcome.specs.declared.stop.CentralStop.{CentralStop}
+use Rattle.outcome.specs.declared.stop.CentralStop.the-variants as Central
+use Rattle.outcome.specs.declared.stop.PeripheralStop.{PeripheralStop}
+use Rattle.outcome.specs.declared.stop.PeripheralStop.the-variants as Peripheral
+
+abbrev pub refusalNumber : Refusal → ℕ
+-- 1 central length; 2 peripheral length, or a turn of a processor that isn't there
+refusalNumber Refused.CentralLength = 1
+refusalNumber Refused.PeripheralLength = 2
+-- 3 central word over 60 bits; 4 peripheral word over 4,095
+refusalNumber Refused.CentralWord = 3
+refusalNumber Refused.PeripheralWord = 4
+-- 5 record value over its width, a stop not listed, stray EM bit, nonzero B0, RA + FL past the memory
+refusalNumber Refused.RecordValue = 5
+-- 6 no job, over 16 jobs, over 256 stints, or lists of unequal length
+refusalNumber Refused.ListLength = 6
+-- 7 stint of no listed job
+refusalNumber Refused.UnlistedJob = 7
+-- 8 a stint over 65,535 turns, or a run over 65,535 rounds
+refusalNumber Refused.TooManyTurns = 8
+-- 9 package past the end; 10 stray bits; 11 RA + FL past the end
+refusalNumber Refused.PackagePastEnd = 9
+refusalNumber Refused.StrayBits = 10
+refusalNumber Refused.FieldPastEnd = 11
+-- 12 any two of the listed packages and fields share a word
+refusalNumber Refused.SharedWord = 12
+-- 13 word over 4,095; 14 put unmet; 15 take unmet
+refusalNumber Refused.DeviceWord = 13
+refusalNumber Refused.PutUnmet = 14
+refusalNumber Refused.TakeUnmet = 15
+-- 16 unreadable line
+refusalNumber Refused.UnreadableLine = 16
+
+abbrev pub centralStopNumber : CentralStop → ℕ
+centralStopNumber Central.Halt = 1
+centralStopNumber Central.OperandOutside = 2
+centralStopNumber Central.FetchOutside = 3
+centralStopNumber Central.UnfitCode = 4
+centralStopNumber Central.LastParcel = 5
+
+abbrev pub peripheralStopNumber : PeripheralStop → ℕ
+peripheralStopNumber Peripheral.CentralAddress = 31
+peripheralStopNumber Peripheral.NoChannel = 32
+peripheralStopNumber Peripheral.PackagePastEnd = 33
+peripheralStopNumber Peripheral.StrayBits = 34
+peripheralStopNumber Peripheral.FieldPastEnd = 35
+peripheralStopNumber Peripheral.UnfitCode = 36

@@ -1,0 +1,21 @@
+-- `word::shifts::mask60` meets its contract. Assumes nothing.
+use mathlib.Core.Path.{_∙_}
+use Prim.Native.Nat.{_-_, _^_}
+use native.Mathlib.Omega.{arith}
+use borrow.Author.Needs.{needs}
+use lib.Pow.{shr-le}
+use Rattle.word.proofs.Machine.{mask-is}
+use Rattle.word.proofs.shifts.mask60.Statement.{statement}
+use Rattle.word.proofs.shifts.mask60.Tie as tie
+
+shr-complement60 : tie.Need-shr-complement60
+shr-complement60 c = search needs
+
+complement60-requires : tie.Need-complement60-requires
+complement60-requires c κs = omega (arith, shr-le (2 ^ 60 - 1) (c .args .k))
+
+returns : tie.Need-returns
+returns c = c .complement60 .ensures ∙ mask-is 60 (c .before .args .k)
+
+pub mask60-spec : {M : Type 1} → statement M
+mask60-spec = tie.close (tie.spec shr-complement60 complement60-requires returns)

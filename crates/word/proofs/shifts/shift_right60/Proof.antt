@@ -1,0 +1,28 @@
+-- `word::shifts::shift_right60` meets its contract. Assumes nothing.
+use native.Mathlib.Omega.{arith}
+use borrow.Author.Tests.{le-leb, lt-leb}
+use borrow.Author.Needs.{needs}
+use Rattle.word.specs.Shifts.{shiftRightSigned}
+use Rattle.word.proofs.Machine.{or-mask}
+use Rattle.word.proofs.shifts.shift_right60.Statement.{statement}
+use Rattle.word.proofs.shifts.shift_right60.Tie as tie
+
+shr-result : tie.Need-shr-result
+shr-result c = search needs
+
+shr-result-2 : tie.Need-shr-result-2
+shr-result-2 c = search needs
+
+mask60-requires : tie.Need-mask60-requires
+mask60-requires c κs = search needs
+
+returns : tie.Need-returns
+unfolding shiftRightSigned
+returns c = simp (lt-leb _ _ (c .if1 .taken)) (omega arith)
+
+returns-2 : tie.Need-returns-2
+unfolding shiftRightSigned
+returns-2 c = simp (le-leb _ _ (c .before .if1 .left), c .mask60 .ensures) (or-mask 60 _ _ (c .before .before .pre .0))
+
+pub shift-right60-spec : {M : Type 1} → statement M
+shift-right60-spec = tie.close (tie.spec shr-result shr-result-2 mask60-requires returns returns-2)

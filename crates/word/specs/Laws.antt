@@ -1,0 +1,8 @@
+-- Consequences of the definitions, for every width where they hold for every width. Assumes nothing.
+pub mod Choice
+pub mod Bits
+pub mod Sums
+pub mod Logic
+pub mod Shifts
+pub mod Floating
+pub mod Fields

@@ -1,0 +1,59 @@
+-- Where a bit of a number stands after a shift, a cut and a join. Assumes nothing.
+use mathlib.Core.Logic.{⊎-elim}
+use mathlib.Core.Path.{_≡_, sym, ap, _∙_, subst}
+use Prim.Native.Nat.{ℕ, _+_, _-_, _*_, _/_, _%_, _^_, _≤_, _<_}
+use native.Mathlib.Nat.{mod-lt, sub-add-cancel, div-eq-of-lt, lt-of-lt-of-le, le-of-lt}
+use native.Mathlib.Omega.{arith}
+use lib.Arith.{digits-div}
+use lib.Pow.{pow-pos, pow-mono, pow-add, shr-shr, mod-mod-pow, field, high, low, ones-split, ones-lt}
+use Rattle.word.specs.Bits.{bit, bits}
+use Rattle.word.specs.Laws.Choice.{le-or-lt}
+
+pub bits-lt : (w first count : ℕ) → bits w first count < 2 ^ count
+bits-lt w first count = mod-lt (w / 2 ^ first) (pow-pos count)
+
+pub bit-lt : (w i : ℕ) → bit w i < 2
+bit-lt w i = bits-lt w i 1
+
+-- a shift right by k brings bit k + i to bit i
+pub bit-shifted : (w k i : ℕ) → bit (w / 2 ^ k) i ≡ bit w (k + i)
+bit-shifted w k i = ap (λ (x : ℕ). x % 2) (shr-shr w k i)
+
+bit-cut-at : (w d i : ℕ) → bit (w % 2 ^ (d + 1 + i)) i ≡ bit w i
+bit-cut-at w d i = ap (λ (x : ℕ). x % 2) (field w (d + 1) i) ∙ mod-mod-pow (w / 2 ^ i) d 1
+
+-- the low s bits keep their places
+pub bit-cut : (w s i : ℕ) → i < s → bit (w % 2 ^ s) i ≡ bit w i
+bit-cut w s i h =
+    let e : s - (i + 1) + 1 + i ≡ s = omega arith in
+    subst (λ (x : ℕ). bit (w % 2 ^ x) i ≡ bit w i) e (bit-cut-at w (s - (i + 1)) i)
+
+module _ (x s y : ℕ) (h : y < 2 ^ s) where
+  -- below bit s stand the bits of y
+  pub bit-joined-low : (i : ℕ) → i < s → bit (x * 2 ^ s + y) i ≡ bit y i
+  bit-joined-low i l = sym (bit-cut (x * 2 ^ s + y) s i l) ∙ ap (λ (z : ℕ). bit z i) (low x s h)
+
+  -- from bit s up stand those of x
+  pub bit-joined-high : (i : ℕ) → bit (x * 2 ^ s + y) (s + i) ≡ bit x i
+  bit-joined-high i = sym (bit-shifted (x * 2 ^ s + y) s i) ∙ ap (λ (z : ℕ). bit z i) (high x s h)
+
+-- all ones, shifted right by k
+pub ones-shifted : (n k : ℕ) → (2 ^ n - 1) / 2 ^ k ≡ 2 ^ (n - k) - 1
+ones-shifted n k = ⊎-elim short long (le-or-lt k n)
+  where
+    short : k ≤ n → (2 ^ n - 1) / 2 ^ k ≡ 2 ^ (n - k) - 1
+    short h =
+        ap (λ (x : ℕ). (2 ^ x - 1) / 2 ^ k) (sym (sub-add-cancel h))
+        ∙ ap (λ (x : ℕ). x / 2 ^ k) (ones-split (n - k) k)
+        ∙ digits-div (2 ^ (n - k) - 1) (ones-lt k)
+
+    long : n < k → (2 ^ n - 1) / 2 ^ k ≡ 2 ^ (n - k) - 1
+    long h =
+        let e : 0 ≡ n - k = omega arith in
+        div-eq-of-lt (lt-of-lt-of-le (ones-lt n) (pow-mono (le-of-lt h))) ∙ ap (λ (x : ℕ). 2 ^ x - 1) e
+
+pub bit-ones : (n i : ℕ) → i < n → bit (2 ^ n - 1) i ≡ 1
+bit-ones n i h =
+    let d : ℕ = n - i - 1 in
+    let e : n - i ≡ d + 1 = omega arith in
+    ap (λ (x : ℕ). x % 2) (ones-shifted n i ∙ ap (λ (x : ℕ). 2 ^ x - 1) e) ∙ omega (arith, pow-add 2 d 1, pow-pos d)

@@ -1,0 +1,83 @@
+-- The logical codes bit by bit. Assumes nothing.
+use mathlib.Core.List.{List, map}
+use mathlib.Core.Path.{_≡_, refl, sym, ap, ap₂, _∙_}
+use Prim.Native.Nat.{ℕ, zero, suc, _+_, _-_, _*_, _/_, _%_, _^_, _<_, min, max}
+use native.Mathlib.Nat.{mod-eq-of-lt, zero-div}
+use native.Mathlib.Omega.{arith}
+use lib.Bits.{bitAnd, bitOr, bitXor, differ, and-shr, or-shr, xor-shr, and-step, or-step, xor-step, and-lt, or-lt, xor-lt, xor-add-and, and-mask}
+use lib.ListN.{getD, List·getD-map}
+use Rattle.word.specs.Bits.{bit}
+use Rattle.word.specs.Sums.{complement}
+use Rattle.word.specs.Logic.{logicalResults, logical, logicalBits, logicalBit, selectiveClear}
+use Rattle.word.specs.Laws.Choice.{of-getD}
+use Rattle.word.specs.Laws.Bits.{bit-lt, bit-ones}
+use Rattle.word.specs.Laws.Sums.{complement-lt}
+
+last-digit : (q r : ℕ) → r < 2 → (q * 2 + r) % 2 ≡ r
+last-digit q r h = omega arith
+
+differ-lt : (x y : ℕ) → x < 2 → y < 2 → differ x y < 2
+differ-lt zero y hx hy = hy
+differ-lt (suc zero) zero hx hy = hx
+differ-lt (suc zero) (suc zero) hx hy = omega arith
+differ-lt (suc zero) (suc (suc y)) hx hy = absurd (omega arith)
+differ-lt (suc (suc x)) y hx hy = absurd (omega arith)
+
+-- a bit of the product is set where both are
+pub and-bit : (a b i : ℕ) → bit (bitAnd a b) i ≡ min (bit a i) (bit b i)
+and-bit a b i =
+    ap (λ (x : ℕ). x % 2) (and-shr a b i ∙ and-step (a / 2 ^ i) (b / 2 ^ i))
+    ∙ last-digit (bitAnd (a / 2 ^ i / 2) (b / 2 ^ i / 2)) (min (bit a i) (bit b i)) (omega arith)
+
+-- of the sum where one is
+pub or-bit : (a b i : ℕ) → bit (bitOr a b) i ≡ max (bit a i) (bit b i)
+or-bit a b i =
+    ap (λ (x : ℕ). x % 2) (or-shr a b i ∙ or-step (a / 2 ^ i) (b / 2 ^ i))
+    ∙ last-digit (bitOr (a / 2 ^ i / 2) (b / 2 ^ i / 2)) (max (bit a i) (bit b i)) (omega arith)
+
+-- of the difference where they differ
+pub xor-bit : (a b i : ℕ) → bit (bitXor a b) i ≡ differ (bit a i) (bit b i)
+xor-bit a b i =
+    ap (λ (x : ℕ). x % 2) (xor-shr a b i ∙ xor-step (a / 2 ^ i) (b / 2 ^ i))
+    ∙ last-digit (bitXor (a / 2 ^ i / 2) (b / 2 ^ i / 2)) (differ (bit a i) (bit b i)) (differ-lt (bit a i) (bit b i) (bit-lt a i) (bit-lt b i))
+
+-- the complement is the difference with all ones
+pub xor-ones : (n a : ℕ) → a < 2 ^ n → bitXor a (2 ^ n - 1) ≡ complement n a
+xor-ones n a h = omega (arith, xor-add-and a (2 ^ n - 1), and-mask a n, mod-eq-of-lt h)
+
+differ-one : (x : ℕ) → x < 2 → differ x 1 ≡ 1 - x
+differ-one zero h = refl
+differ-one (suc zero) h = refl
+differ-one (suc (suc x)) h = absurd (omega arith)
+
+-- of the complement where it was clear
+pub complement-bit : (n a i : ℕ) → a < 2 ^ n → i < n → bit (complement n a) i ≡ 1 - bit a i
+complement-bit n a i h l =
+    ap (λ (x : ℕ). bit x i) (sym (xor-ones n a h))
+    ∙ xor-bit a (2 ^ n - 1) i
+    ∙ ap (differ (bit a i)) (bit-ones n i l)
+    ∙ differ-one (bit a i) (bit-lt a i)
+
+bits-of-results : (j k i : ℕ) → k < 2 ^ 60 → i < 60 → map (λ (x : ℕ). bit x i) (logicalResults j k) ≡ logicalBits (bit j i) (bit k i)
+bits-of-results j k i h l =
+    let c : ℕ = complement 60 k in
+    rw (and-bit j k i, or-bit j k i, xor-bit j k i, and-bit j c i, or-bit j c i, xor-bit j c i, complement-bit 60 k i h l)
+
+-- the codes 10 to 17: each bit of the result goes by the two bits at its place
+pub logical-bit : (m j k i : ℕ) → k < 2 ^ 60 → i < 60 → bit (logical m j k) i ≡ logicalBit m (bit j i) (bit k i)
+unfolding logical
+logical-bit m j k i h l =
+    sym (List·getD-map (λ (x : ℕ). bit x i) (logicalResults j k) m 0)
+    ∙ ap₂ (λ (xs : List ℕ) (d : ℕ). getD xs m d) (bits-of-results j k i h l) (ap (λ (x : ℕ). x % 2) (zero-div (2 ^ i)))
+
+-- 13: a bit of A is kept where the operand's is clear
+pub clear-bit : (a b i : ℕ) → b < 2 ^ 18 → i < 18 → bit (selectiveClear a b) i ≡ min (bit a i) (1 - bit b i)
+clear-bit a b i h l = and-bit a (complement 18 b) i ∙ ap (min (bit a i)) (complement-bit 18 b i h l)
+
+pub logical-lt : (m j k : ℕ) → j < 2 ^ 60 → k < 2 ^ 60 → logical m j k < 2 ^ 60
+unfolding logical
+logical-lt m j k hj hk =
+    let c : complement 60 k < 2 ^ 60 = complement-lt 60 k in
+    of-getD (λ (r : ℕ). r < 2 ^ 60) (logicalResults j k) m 0
+    (hj, (and-lt 60 j k hj hk, (or-lt 60 j k hj hk, (xor-lt 60 j k hj hk, (c, (and-lt 60 _ _ hj c, (or-lt 60 _ _ hj c, (xor-lt 60 _ _ hj c, tt))))))))
+    (omega arith)

@@ -1,0 +1,62 @@
+-- What the sums of n bits come to, for every n. Assumes nothing.
+use mathlib.Core.Logic.{⊎-elim}
+use mathlib.Core.Path.{_≡_, sym, ap, _∙_}
+use Prim.Native.Nat.{ℕ, _+_, _-_, _^_, _≤_, _<_}
+use native.Mathlib.Nat.{add-comm}
+use native.Mathlib.Omega.{arith}
+use borrow.Author.Tests.{lt-ltb, le-ltb}
+use lib.Pow.{pow-pos, pow-mono}
+use Rattle.word.specs.Bits.{negative}
+use Rattle.word.specs.Sums.{complement, sum, difference, signExtend}
+use Rattle.word.specs.Laws.Choice.{of-cond, le-or-lt}
+
+pub complement-lt : (n a : ℕ) → complement n a < 2 ^ n
+complement-lt n a = omega (arith, pow-pos n)
+
+pub complement-complement : (n a : ℕ) → a < 2 ^ n → complement n (complement n a) ≡ a
+complement-complement n a h = omega (arith, pow-pos n)
+
+module _ (n a b : ℕ) (ha : a < 2 ^ n) (hb : b < 2 ^ n) where
+  -- with no carry, and not all ones, the sum is the plain one
+  pub sum-plain : a + b < 2 ^ n - 1 → sum n a b ≡ a + b
+  unfolding sum
+  sum-plain h = rw (lt-ltb a (2 ^ n - 1 - b) (omega arith)) (omega arith)
+
+  -- else the end-around carry takes 2 ^ n - 1 away
+  pub sum-carried : 2 ^ n - 1 ≤ a + b → sum n a b ≡ a + b - (2 ^ n - 1)
+  unfolding sum
+  sum-carried h = rw (le-ltb a (2 ^ n - 1 - b) (omega arith)) (omega arith)
+
+  pub sum-lt : sum n a b < 2 ^ n
+  sum-lt = ⊎-elim (λ h. rw (sum-carried h) (omega arith)) (λ h. rw (sum-plain h) (omega arith)) (le-or-lt (2 ^ n - 1) (a + b))
+
+  -- "minus zero comes only from two minus zeros"
+  pub sum-minus-zero : sum n a b ≡ 2 ^ n - 1 → (a ≡ 2 ^ n - 1) × (b ≡ 2 ^ n - 1)
+  sum-minus-zero e =
+      ⊎-elim (λ h. omega (arith, sum-carried h)) (λ h. omega (arith, sum-plain h)) (le-or-lt (2 ^ n - 1) (a + b))
+
+-- and two minus zeros give it
+pub minus-zeros : (n : ℕ) → sum n (2 ^ n - 1) (2 ^ n - 1) ≡ 2 ^ n - 1
+minus-zeros n =
+    let l : 2 ^ n - 1 < 2 ^ n = omega (arith, pow-pos n) in
+    sum-carried n (2 ^ n - 1) (2 ^ n - 1) l l (omega arith) ∙ omega arith
+
+pub sum-comm : (n a b : ℕ) → a < 2 ^ n → b < 2 ^ n → sum n a b ≡ sum n b a
+sum-comm n a b ha hb =
+    ⊎-elim
+    (λ h. sum-carried n a b ha hb h ∙ ap (λ (s : ℕ). s - (2 ^ n - 1)) (add-comm a b) ∙ sym (sum-carried n b a hb ha (omega arith)))
+    (λ h. sum-plain n a b ha hb h ∙ add-comm a b ∙ sym (sum-plain n b a hb ha (omega arith)))
+    (le-or-lt (2 ^ n - 1) (a + b))
+
+-- a value and its complement give plus zero, so a - a is plus zero
+pub sum-complement : (n a : ℕ) → a < 2 ^ n → sum n a (complement n a) ≡ 0
+sum-complement n a h = sum-carried n a (complement n a) h (complement-lt n a) (omega arith) ∙ omega arith
+
+pub difference-lt : (n a b : ℕ) → a < 2 ^ n → difference n a b < 2 ^ n
+difference-lt n a b h = sum-lt n a (complement n b) h (complement-lt n b)
+
+pub extend-lt : (n m a : ℕ) → n ≤ m → a < 2 ^ n → signExtend n m a < 2 ^ m
+unfolding signExtend
+extend-lt n m a l h =
+    let p : 2 ^ n ≤ 2 ^ m = pow-mono l in
+    of-cond (λ (r : ℕ). r < 2 ^ m) (negative n a) (λ t. omega arith) (λ t. omega arith)

@@ -1,0 +1,42 @@
+-- The logical codes, by document 004. `bitAnd`, `bitOr` and `bitXor` are the logic's own; `Laws.Logic` says what each bit of a result is.
+-- Assumes nothing.
+use Prim.Native.Nat.{ℕ, _-_, min, max}
+use mathlib.Core.List.{List, [], _∷_}
+use lib.Bits.{bitAnd, bitOr, bitXor, differ}
+use lib.ListN.{getD}
+use Rattle.word.specs.Sums.{complement}
+
+-- the results of 10 to 17 for the operands Xj and Xk
+abbrev pub logicalResults : ℕ → ℕ → List ℕ
+logicalResults xj xk =
+    xj
+    ∷ bitAnd xj xk
+    ∷ bitOr xj xk
+    ∷ bitXor xj xk
+    ∷ complement 60 xk
+    ∷ bitAnd xj (complement 60 xk)
+    ∷ bitOr xj (complement 60 xk)
+    ∷ bitXor xj (complement 60 xk)
+    ∷ []
+
+-- code 1m
+unfoldable pub logical : ℕ → ℕ → ℕ → ℕ
+logical m xj xk = getD (logicalResults xj xk) m 0
+
+-- the same for one bit of each operand
+abbrev pub logicalBits : ℕ → ℕ → List ℕ
+logicalBits x y = x ∷ min x y ∷ max x y ∷ differ x y ∷ (1 - y) ∷ min x (1 - y) ∷ max x (1 - y) ∷ differ x (1 - y) ∷ []
+
+-- code 1m on one bit of each operand
+abbrev pub logicalBit : ℕ → ℕ → ℕ → ℕ
+logicalBit m x y = getD (logicalBits x y) m 0
+
+-- the peripheral logical product (12, 22), logical difference (11, 23, 33, 43, 53) and selective clear (13) of A and an operand of 18 bits
+abbrev pub logicalProduct : ℕ → ℕ → ℕ
+logicalProduct a b = bitAnd a b
+
+abbrev pub logicalDifference : ℕ → ℕ → ℕ
+logicalDifference a b = bitXor a b
+
+abbrev pub selectiveClear : ℕ → ℕ → ℕ
+selectiveClear a b = bitAnd a (complement 18 b)

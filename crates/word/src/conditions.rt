@@ -1,0 +1,72 @@
+// The conditions of the branches 03 to 07.
+ghost use mathlib.Core.Path.{_≡_};
+ghost use Prim.Native.Nat.{_<_, _≤_};
+ghost use Rattle.word.specs.Bits.{negative};
+ghost use Rattle.word.specs.Conditions.{isZero, isOutOfRange, isIndefinite, wordCondition, isLess, comparison};
+
+fn is_zero(x: u64) -> bool
+    ensures { λ r. ⌜ r ≡ isZero x ⌝ }
+{
+    x == 0 || x == 0o77777777777777777777
+}
+
+fn is_out_of_range(x: u64) -> bool
+    ensures { λ r. ⌜ r ≡ isOutOfRange x ⌝ }
+{
+    let top = x >> 48;
+    top == 0o3777 || top == 0o4000
+}
+
+fn is_indefinite(x: u64) -> bool
+    ensures { λ r. ⌜ r ≡ isIndefinite x ⌝ }
+{
+    let top = x >> 48;
+    top == 0o1777 || top == 0o6000
+}
+
+fn is_negative(x: u64) -> bool
+    ensures { λ r. ⌜ r ≡ negative 60 x ⌝ }
+{
+    0o40000000000000000000 <= x
+}
+
+// Code 03 with i, of Xj.
+pub fn word_condition(i: u64, x: u64) -> bool
+    requires { ⌜ i < 8 ⌝ }
+    ensures { λ r. ⌜ r ≡ wordCondition i x ⌝ }
+{
+    match i {
+        0 => is_zero(x),
+        1 => !is_zero(x),
+        2 => !is_negative(x),
+        3 => is_negative(x),
+        4 => !is_out_of_range(x),
+        5 => is_out_of_range(x),
+        6 => !is_indefinite(x),
+        _ => is_indefinite(x),
+    }
+}
+
+// As signed values of 18 bits, minus zero below plus zero.
+fn is_less(a: u64, b: u64) -> bool
+    ensures { λ r. ⌜ r ≡ isLess a b ⌝ }
+{
+    if a < 0o400000 {
+        if b < 0o400000 { a < b } else { false }
+    } else {
+        if b < 0o400000 { true } else { a < b }
+    }
+}
+
+// Code 0m, m from 4 to 7, of Bi and Bj.
+pub fn comparison(m: u64, bi: u64, bj: u64) -> bool
+    requires { ⌜ (4 ≤ m) × (m < 8) ⌝ }
+    ensures { λ r. ⌜ r ≡ comparison m bi bj ⌝ }
+{
+    match m {
+        4 => bi == bj,
+        5 => bi != bj,
+        6 => !is_less(bi, bj),
+        _ => is_less(bi, bj),
+    }
+}

@@ -1,0 +1,161 @@
+// Operations on words of 60 bits.
+ghost use Prim.Native.Nat.{_<_, _^_};
+use super::show;
+use word::conditions::word_condition;
+use word::fields::code;
+use word::fields::constant_k;
+use word::fields::digit;
+use word::fields::from_parts;
+use word::fields::jk;
+use word::fields::parcel;
+use word::fields::part;
+use word::floating::unpack;
+use word::logic::logical;
+use word::shifts::count_ones60;
+use word::shifts::mask60;
+use word::shifts::rotate_left60;
+use word::shifts::shift_right60;
+use word::sums::complement60;
+use word::sums::difference60;
+use word::sums::low12;
+use word::sums::low18;
+use word::sums::sum60;
+
+const EDGES: [u64; 12] = [
+    0,
+    1,
+    3,
+    0o37777777777777777777,
+    0o40000000000000000000,
+    0o77777777777777777774,
+    0o77777777777777777776,
+    0o77777777777777777777,
+    0o17760000000000000005,
+    0o60010000000000000003,
+    0o37770000000000000000,
+    0o51234567012345670123,
+];
+
+// The edge operand at place i; the remainder tells the checker that it has 60 bits.
+pub fn edge(i: usize) -> u64
+    requires { ⌜ i < 12 ⌝ }
+    ensures { λ r. ⌜ r < 2 ^ 60 ⌝ }
+{
+    EDGES[i] % 0o100000000000000000000
+}
+
+fn logicals(a: u64, b: u64)
+    requires { ⌜ (a < 2 ^ 60) × (b < 2 ^ 60) ⌝ }
+{
+    show::word(logical(0, a, b));
+    show::word(logical(1, a, b));
+    show::word(logical(2, a, b));
+    show::word(logical(3, a, b));
+    show::word(logical(4, a, b));
+    show::word(logical(5, a, b));
+    show::word(logical(6, a, b));
+    show::word(logical(7, a, b));
+}
+
+fn pair(a: u64, b: u64)
+    requires { ⌜ (a < 2 ^ 60) × (b < 2 ^ 60) ⌝ }
+{
+    show::word(a);
+    show::word(b);
+    show::word(sum60(a, b));
+    show::word(difference60(a, b));
+    logicals(a, b);
+    show::end_line();
+}
+
+pub fn pairs() {
+    for i in 0..144usize {
+        pair(edge(i / 12), edge(i % 12));
+    }
+}
+
+fn shift(w: u64, k: u64)
+    requires { ⌜ (w < 2 ^ 60) × (k < 64) ⌝ }
+{
+    show::word(w);
+    show::short(k);
+    show::word(rotate_left60(w, k));
+    show::word(shift_right60(w, k));
+    show::word(mask60(k));
+    show::end_line();
+}
+
+pub fn shifts() {
+    for i in 0..768u64 {
+        shift(edge((i / 64) as usize), i % 64);
+    }
+}
+
+fn conditions(w: u64) {
+    show::flag(word_condition(0, w));
+    show::flag(word_condition(1, w));
+    show::flag(word_condition(2, w));
+    show::flag(word_condition(3, w));
+    show::flag(word_condition(4, w));
+    show::flag(word_condition(5, w));
+    show::flag(word_condition(6, w));
+    show::flag(word_condition(7, w));
+}
+
+fn digits(p: u64) {
+    show::short(digit(p, 0));
+    show::short(digit(p, 1));
+    show::short(digit(p, 2));
+    show::short(digit(p, 3));
+    show::short(digit(p, 4));
+    show::short(code(p));
+    show::short(jk(p));
+}
+
+fn instructions(w: u64) {
+    digits(parcel(w, 0));
+    digits(parcel(w, 1));
+    digits(parcel(w, 2));
+    digits(parcel(w, 3));
+    show::short(constant_k(w, 0));
+    show::short(constant_k(w, 1));
+    show::short(constant_k(w, 2));
+}
+
+fn parts(w: u64) {
+    show::short(part(w, 0));
+    show::short(part(w, 1));
+    show::short(part(w, 2));
+    show::short(part(w, 3));
+    show::short(part(w, 4));
+}
+
+// The word with its five parts in the opposite order.
+fn reversed(w: u64) -> u64 {
+    from_parts(part(w, 4), part(w, 3), part(w, 2), part(w, 1), part(w, 0))
+}
+
+fn one_word(w: u64)
+    requires { ⌜ w < 2 ^ 60 ⌝ }
+{
+    show::word(w);
+    show::word(complement60(w));
+    show::short(low18(w));
+    show::short(low12(w));
+    show::short(count_ones60(w));
+    let u = unpack(w);
+    show::word(u.coefficient);
+    show::short(u.exponent);
+    conditions(w);
+    show::end_line();
+    instructions(w);
+    parts(w);
+    show::word(reversed(w));
+    show::end_line();
+}
+
+pub fn words() {
+    for i in 0..12usize {
+        one_word(edge(i));
+    }
+}
