@@ -144,7 +144,7 @@ for w in WORDS:
     bits = text(w, 60)
     coefficient, exponent = unpacked(w)
     line(word(w), word(complement(w, 60)), short(number(bits[-18:])), short(number(bits[-12:])), short(bits.count("1")),
-         word(coefficient), short(exponent), flags(conditions(w)))
+         word(coefficient), short(exponent), bits[0], flags(conditions(w)))
     parcels = [bits[i : i + 15] for i in range(0, 60, 15)]
     digits = [fields(p, 3) + [number(p[:6]), number(p[-6:])] for p in parcels]
     constants = [number(bits[15 * i : 15 * i + 30][-18:]) for i in range(3)]
@@ -161,5 +161,5 @@ for a in SHORTS:
 for b in SHORTS:
     for x in WORDS:
         extended = number(text(b, 18)[0] * 42 + text(b, 18))
-        line(short(b), word(x), short(complement(b, 18)), word(extended), word(nominal(b, x, True)),
+        line(short(b), word(x), short(complement(b, 18)), text(b, 18)[0], word(extended), word(nominal(b, x, True)),
              word(nominal(b, x, False)), word(packed(b, x)))

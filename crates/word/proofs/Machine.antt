@@ -10,7 +10,8 @@ use Rattle.word.specs.Sums.{complement}
 use Rattle.word.specs.Shifts.{rotateLeft, mask}
 use Rattle.word.specs.Laws.Choice.{le-or-lt}
 use Rattle.word.specs.Laws.Bits.{ones-shifted}
-use Rattle.word.specs.Laws.Shifts.{rotated-high, rotated-low, shift-lt}
+use Rattle.word.specs.Laws.Rotation.{rotated-high, rotated-low}
+use Rattle.word.specs.Laws.Shifts.{shift-lt}
 
 -- the complement of n bits in a machine word of j + n
 pub not-masked : (j n a : ℕ) → a < 2 ^ n → bitAnd (2 ^ (j + n) - 1 - a) (2 ^ n - 1) ≡ complement n a

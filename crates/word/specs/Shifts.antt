@@ -1,6 +1,6 @@
 -- Shifts, masks and counts of values of n bits: 20 to 23, 43, 47 and the peripheral SHN. Assumes nothing.
 use Prim.Native.Nat.{ℕ, _+_, _-_, _*_, _/_, _%_, _^_}
-use mathlib.Core.Bool.{cond}
+use mathlib.Core.Bool.{Bool, not, cond}
 use lib.Count.{onesIn}
 use lib.Dec.{ltb}
 use Rattle.word.specs.Bits.{low, negative}
@@ -26,13 +26,16 @@ shiftRightSigned n w k = shiftRight w k + cond (negative n w) (mask n k) 0
 unfoldable pub nominalCount : ℕ → ℕ
 nominalCount b = low 6 (cond (negative 18 b) (complement 18 b) b)
 
--- 22: nominally left, right where Bj is negative
-unfoldable pub nominalLeft : ℕ → ℕ → ℕ
-nominalLeft b x = cond (negative 18 b) (shiftRightSigned 60 x (nominalCount b)) (rotateLeft 60 x (nominalCount b))
+-- left in a circle, or right end off with the sign extended
+unfoldable pub nominal : Bool → ℕ → ℕ → ℕ
+nominal left b x = cond left (rotateLeft 60 x (nominalCount b)) (shiftRightSigned 60 x (nominalCount b))
 
--- 23: nominally right, left where Bj is negative
+-- 22 goes left and 23 right; a negative Bj "also turns the direction"
+unfoldable pub nominalLeft : ℕ → ℕ → ℕ
+nominalLeft b x = nominal (not (negative 18 b)) b x
+
 unfoldable pub nominalRight : ℕ → ℕ → ℕ
-nominalRight b x = cond (negative 18 b) (rotateLeft 60 x (nominalCount b)) (shiftRightSigned 60 x (nominalCount b))
+nominalRight b x = nominal (negative 18 b) b x
 
 -- SHN (10): "turns A left in a circle for d 00 to 37, else right by 77 - d, end off"
 unfoldable pub shiftA : ℕ → ℕ → ℕ

@@ -1,8 +1,8 @@
 // The conditions of the branches 03 to 07.
 ghost use mathlib.Core.Path.{_≡_};
 ghost use Prim.Native.Nat.{_<_, _≤_};
-ghost use Rattle.word.specs.Bits.{negative};
 ghost use Rattle.word.specs.Conditions.{isZero, isOutOfRange, isIndefinite, wordCondition, isLess, comparison};
+use super::sums::is_negative60;
 
 fn is_zero(x: u64) -> bool
     ensures { λ r. ⌜ r ≡ isZero x ⌝ }
@@ -24,12 +24,6 @@ fn is_indefinite(x: u64) -> bool
     top == 0o1777 || top == 0o6000
 }
 
-fn is_negative(x: u64) -> bool
-    ensures { λ r. ⌜ r ≡ negative 60 x ⌝ }
-{
-    0o40000000000000000000 <= x
-}
-
 // Code 03 with i, of Xj.
 pub fn word_condition(i: u64, x: u64) -> bool
     requires { ⌜ i < 8 ⌝ }
@@ -38,8 +32,8 @@ pub fn word_condition(i: u64, x: u64) -> bool
     match i {
         0 => is_zero(x),
         1 => !is_zero(x),
-        2 => !is_negative(x),
-        3 => is_negative(x),
+        2 => !is_negative60(x),
+        3 => is_negative60(x),
         4 => !is_out_of_range(x),
         5 => is_out_of_range(x),
         6 => !is_indefinite(x),

@@ -1,11 +1,12 @@
 // Shifts, masks and counts of bits: 20 to 23, 43, 47 and the peripheral SHN.
 ghost use mathlib.Core.Path.{_≡_};
 ghost use Prim.Native.Nat.{_<_, _^_};
-ghost use Rattle.word.specs.Shifts.{rotateLeft, mask, shiftRight, shiftRightSigned, nominalCount, nominalLeft, nominalRight, shiftA, countOnes};
+ghost use Rattle.word.specs.Shifts.{rotateLeft, mask, shiftRight, shiftRightSigned, nominalCount, nominal, nominalLeft, nominalRight, shiftA, countOnes};
 use super::sums::ONES18;
 use super::sums::ONES60;
 use super::sums::complement18;
 use super::sums::complement60;
+use super::sums::is_negative18;
 
 // 20, for any count.
 pub fn rotate_left60(w: u64, k: u64) -> u64
@@ -65,17 +66,24 @@ fn nominal_count(b: u64) -> u64
     }
 }
 
+fn nominal(left: bool, b: u64, x: u64) -> u64
+    requires { ⌜ (b < 2 ^ 18) × (x < 2 ^ 60) ⌝ }
+    ensures { λ r. ⌜ r ≡ nominal left b x ⌝ }
+{
+    let k = nominal_count(b);
+    if left {
+        rotate_left60(x, k)
+    } else {
+        shift_right60(x, k)
+    }
+}
+
 // 22.
 pub fn nominal_left(b: u64, x: u64) -> u64
     requires { ⌜ (b < 2 ^ 18) × (x < 2 ^ 60) ⌝ }
     ensures { λ r. ⌜ r ≡ nominalLeft b x ⌝ }
 {
-    let k = nominal_count(b);
-    if b < 0o400000 {
-        rotate_left60(x, k)
-    } else {
-        shift_right60(x, k)
-    }
+    nominal(!is_negative18(b), b, x)
 }
 
 // 23.
@@ -83,12 +91,7 @@ pub fn nominal_right(b: u64, x: u64) -> u64
     requires { ⌜ (b < 2 ^ 18) × (x < 2 ^ 60) ⌝ }
     ensures { λ r. ⌜ r ≡ nominalRight b x ⌝ }
 {
-    let k = nominal_count(b);
-    if 0o400000 <= b {
-        rotate_left60(x, k)
-    } else {
-        shift_right60(x, k)
-    }
+    nominal(is_negative18(b), b, x)
 }
 
 // SHN.

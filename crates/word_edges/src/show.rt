@@ -22,19 +22,19 @@ fn octal(n: u64) -> [u8; 21]
 }
 
 // A word of 60 bits and a space.
-pub fn word(n: u64) {
+pub(crate) fn word(n: u64) {
     let text = octal(n);
     io::write_all(1, &text);
 }
 
 // A value of 18 bits and a space: six digits.
-pub fn short(n: u64) {
+pub(crate) fn short(n: u64) {
     let text = octal(n);
     io::write_all(1, &text[14..]);
 }
 
 // 1 for true, 0 for false.
-pub fn flag(yes: bool) {
+pub(crate) fn flag(yes: bool) {
     if yes {
         io::write_all(1, b"1");
     } else {
@@ -42,6 +42,6 @@ pub fn flag(yes: bool) {
     }
 }
 
-pub fn end_line() {
+pub(crate) fn end_line() {
     io::write_all(1, b"\n");
 }

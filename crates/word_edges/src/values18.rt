@@ -14,6 +14,7 @@ use word::shifts::shift_a;
 use word::shifts::shift_right18;
 use word::sums::complement18;
 use word::sums::difference18;
+use word::sums::is_negative18;
 use word::sums::sign_extend18;
 use word::sums::sum18;
 
@@ -60,7 +61,7 @@ fn pair(a: u64, b: u64)
     show::end_line();
 }
 
-pub fn pairs() {
+pub(crate) fn pairs() {
     for i in 0..144usize {
         pair(edge(i / 12), edge(i % 12));
     }
@@ -77,7 +78,7 @@ fn shift(a: u64, d: u64)
     show::end_line();
 }
 
-pub fn shifts() {
+pub(crate) fn shifts() {
     for i in 0..768u64 {
         shift(edge((i / 64) as usize), i % 64);
     }
@@ -89,6 +90,7 @@ fn with_word(b: u64, x: u64)
     show::short(b);
     show::word(x);
     show::short(complement18(b));
+    show::flag(is_negative18(b));
     show::word(sign_extend18(b));
     show::word(nominal_left(b, x));
     show::word(nominal_right(b, x));
@@ -96,7 +98,7 @@ fn with_word(b: u64, x: u64)
     show::end_line();
 }
 
-pub fn with_words() {
+pub(crate) fn with_words() {
     for i in 0..144usize {
         with_word(edge(i / 12), values60::edge(i % 12));
     }

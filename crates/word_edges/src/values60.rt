@@ -17,6 +17,7 @@ use word::shifts::rotate_left60;
 use word::shifts::shift_right60;
 use word::sums::complement60;
 use word::sums::difference60;
+use word::sums::is_negative60;
 use word::sums::low12;
 use word::sums::low18;
 use word::sums::sum60;
@@ -37,7 +38,7 @@ const EDGES: [u64; 12] = [
 ];
 
 // The edge operand at place i; the remainder tells the checker that it has 60 bits.
-pub fn edge(i: usize) -> u64
+pub(crate) fn edge(i: usize) -> u64
     requires { ⌜ i < 12 ⌝ }
     ensures { λ r. ⌜ r < 2 ^ 60 ⌝ }
 {
@@ -68,7 +69,7 @@ fn pair(a: u64, b: u64)
     show::end_line();
 }
 
-pub fn pairs() {
+pub(crate) fn pairs() {
     for i in 0..144usize {
         pair(edge(i / 12), edge(i % 12));
     }
@@ -85,7 +86,7 @@ fn shift(w: u64, k: u64)
     show::end_line();
 }
 
-pub fn shifts() {
+pub(crate) fn shifts() {
     for i in 0..768u64 {
         shift(edge((i / 64) as usize), i % 64);
     }
@@ -146,6 +147,7 @@ fn one_word(w: u64)
     let u = unpack(w);
     show::word(u.coefficient);
     show::short(u.exponent);
+    show::flag(is_negative60(w));
     conditions(w);
     show::end_line();
     instructions(w);
@@ -154,7 +156,7 @@ fn one_word(w: u64)
     show::end_line();
 }
 
-pub fn words() {
+pub(crate) fn words() {
     for i in 0..12usize {
         one_word(edge(i));
     }

@@ -1,12 +1,14 @@
 -- Where a bit of a number stands after a shift, a cut and a join. Assumes nothing.
+use mathlib.Core.Bool.{true, false}
 use mathlib.Core.Logic.{⊎-elim}
 use mathlib.Core.Path.{_≡_, sym, ap, _∙_, subst}
 use Prim.Native.Nat.{ℕ, _+_, _-_, _*_, _/_, _%_, _^_, _≤_, _<_}
-use native.Mathlib.Nat.{mod-lt, sub-add-cancel, div-eq-of-lt, lt-of-lt-of-le, le-of-lt}
+use native.Mathlib.Nat.{mod-lt, sub-add-cancel, div-eq-of-lt, lt-of-lt-of-le, le-of-lt, le-refl}
 use native.Mathlib.Omega.{arith}
+use borrow.Author.Tests.{leb-true, leb-false}
 use lib.Arith.{digits-div}
 use lib.Pow.{pow-pos, pow-mono, pow-add, shr-shr, mod-mod-pow, field, high, low, ones-split, ones-lt}
-use Rattle.word.specs.Bits.{bit, bits}
+use Rattle.word.specs.Bits.{bit, bits, negative}
 use Rattle.word.specs.Laws.Choice.{le-or-lt}
 
 pub bits-lt : (w first count : ℕ) → bits w first count < 2 ^ count
@@ -57,3 +59,24 @@ bit-ones n i h =
     let d : ℕ = n - i - 1 in
     let e : n - i ≡ d + 1 = omega arith in
     ap (λ (x : ℕ). x % 2) (ones-shifted n i ∙ ap (λ (x : ℕ). 2 ^ x - 1) e) ∙ omega (arith, pow-add 2 d 1, pow-pos d)
+
+-- no bit of a value of n bits is set from bit n up
+pub bit-beyond : (w n i : ℕ) → w < 2 ^ n → n ≤ i → bit w i ≡ 0
+bit-beyond w n i h l = ap (λ (x : ℕ). x % 2) (div-eq-of-lt (lt-of-lt-of-le h (pow-mono l)))
+
+-- j ones above a value of s bits
+pub bit-ones-above : (j s y i : ℕ) → y < 2 ^ s → s ≤ i → i < s + j → bit ((2 ^ j - 1) * 2 ^ s + y) i ≡ 1
+bit-ones-above j s y i h l u =
+    let e : i ≡ s + (i - s) = omega arith in
+    ap (bit ((2 ^ j - 1) * 2 ^ s + y)) e ∙ bit-joined-high (2 ^ j - 1) s y h (i - s) ∙ bit-ones j (i - s) (omega arith)
+
+-- the sign is bit n - 1
+pub sign-set : (n w : ℕ) → 0 < n → w < 2 ^ n → negative n w ≡ true → bit w (n - 1) ≡ 1
+sign-set n w p h t =
+    let s : 2 ^ (n - 1) ≤ w = leb-true (2 ^ (n - 1)) w t in
+    let d : 2 ^ n ≡ 2 ^ (n - 1) * 2 = ap (λ (x : ℕ). 2 ^ x) (sym (sub-add-cancel p)) ∙ pow-add 2 (n - 1) 1 in
+    let e : w ≡ 1 * 2 ^ (n - 1) + (w - 2 ^ (n - 1)) = omega arith in
+    ap (λ (x : ℕ). x / 2 ^ (n - 1) % 2) e ∙ ap (λ (x : ℕ). x % 2) (digits-div 1 {m = 2 ^ (n - 1)} (omega arith))
+
+pub sign-clear : (n w : ℕ) → negative n w ≡ false → bit w (n - 1) ≡ 0
+sign-clear n w t = bit-beyond w (n - 1) (n - 1) (leb-false (2 ^ (n - 1)) w t) (le-refl (n - 1))

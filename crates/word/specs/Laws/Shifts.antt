@@ -1,89 +1,37 @@
--- What the shifts and masks come to, for every width n. Assumes nothing.
+-- What the other shifts, masks and counts come to, for every width n. Assumes nothing.
+use mathlib.Core.Bool.{Bool}
 use mathlib.Core.Logic.{⊎-elim}
 use mathlib.Core.Path.{_≡_, sym, ap, ap₂, _∙_, subst}
 use Prim.Native.Nat.{ℕ, zero, suc, _+_, _-_, _*_, _/_, _%_, _^_, _≤_, _<_}
-use native.Mathlib.Nat.{add-comm, add-zero, sub-le, sub-add-cancel, mul-mod-left, mod-lt, mod-eq-of-lt, add-mod-mod, mod-eq-sub-mod, div-eq-of-lt, lt-of-lt-of-le, le-of-lt}
+use native.Mathlib.Nat.{add-comm, add-zero, sub-le, sub-add-cancel, mod-lt, div-eq-of-lt, lt-of-lt-of-le, le-of-lt, zero-add}
 use native.Mathlib.Omega.{arith}
-use lib.Arith.{digits-lt, lt-one}
+use lib.Arith.{lt-one}
 use lib.Count.{ones, onesIn, ones-step, ones-le}
 use lib.Dec.{ltb}
-use lib.Pow.{pow-pos, pow-mono, pow-add, mod-pow-add, shl-shr, shr-shr, shr-lt, shr-le}
+use lib.Pow.{pow-pos, pow-mono, shr-lt, shr-le, high-ones}
 use Rattle.word.specs.Bits.{bit, negative}
-use Rattle.word.specs.Shifts.{rotateLeft, mask, shiftRight, shiftRightSigned, nominalCount, nominalLeft, nominalRight, shiftA, countOnes}
+use Rattle.word.specs.Shifts.{mask, shiftRight, shiftRightSigned, nominalCount, nominal, nominalLeft, nominalRight, shiftA, countOnes}
+use Rattle.word.specs.Laws.Rotation.{rotate-lt}
 use Rattle.word.specs.Laws.Choice.{of-cond, le-or-lt}
-use Rattle.word.specs.Laws.Bits.{bit-cut, bit-shifted, bit-joined-low, bit-joined-high}
-
--- the low m of m + s bits, brought up by s places
-pub rotated-high : (m s w : ℕ) → w * 2 ^ s % 2 ^ (m + s) ≡ w % 2 ^ m * 2 ^ s
-rotated-high m s w =
-    mod-pow-add (w * 2 ^ s) m s
-    ∙ ap₂ (λ (x y : ℕ). x % 2 ^ m * 2 ^ s + y) (shl-shr w s) (mul-mod-left w (2 ^ s))
-    ∙ add-zero (w % 2 ^ m * 2 ^ s)
-
--- the high s of them, brought down by m places
-pub rotated-low : (m s w : ℕ) → w * 2 ^ s / 2 ^ (m + s) ≡ w / 2 ^ m
-rotated-low m s w =
-    ap (λ (x : ℕ). w * 2 ^ s / 2 ^ x) (add-comm m s) ∙ sym (shr-shr (w * 2 ^ s) s m) ∙ ap (λ (x : ℕ). x / 2 ^ m) (shl-shr w s)
-
--- a rotation by s = k % n places swaps the low n - s bits with the high s
-pub rotate-swaps : (n w k : ℕ) → 0 < n → rotateLeft n w k ≡ w % 2 ^ (n - k % n) * 2 ^ (k % n) + w / 2 ^ (n - k % n)
-unfolding rotateLeft
-rotate-swaps n w k p =
-    let s : ℕ = k % n in
-    subst
-    (λ (x : ℕ). w * 2 ^ s % 2 ^ x + w * 2 ^ s / 2 ^ x ≡ w % 2 ^ (n - s) * 2 ^ s + w / 2 ^ (n - s))
-    (sub-add-cancel (le-of-lt (mod-lt k p)))
-    (ap₂ (λ (x y : ℕ). x + y) (rotated-high (n - s) s w) (rotated-low (n - s) s w))
-
-high-lt : (m s w : ℕ) → w < 2 ^ (m + s) → w / 2 ^ m < 2 ^ s
-high-lt m s w h = shr-lt s m (subst (λ (x : ℕ). w < 2 ^ x) (add-comm m s) h)
-
-swapped-lt : (m s w : ℕ) → w < 2 ^ (m + s) → w % 2 ^ m * 2 ^ s + w / 2 ^ m < 2 ^ (m + s)
-swapped-lt m s w h = rw (pow-add 2 m s) (digits-lt (mod-lt w (pow-pos m)) (high-lt m s w h))
-
-pub rotate-lt : (n w k : ℕ) → 0 < n → w < 2 ^ n → rotateLeft n w k < 2 ^ n
-rotate-lt n w k p h =
-    let s : ℕ = k % n in
-    rw (rotate-swaps n w k p)
-    (subst (λ (x : ℕ). w < 2 ^ x → w % 2 ^ (n - s) * 2 ^ s + w / 2 ^ (n - s) < 2 ^ x) (sub-add-cancel (le-of-lt (mod-lt k p))) (swapped-lt (n - s) s w) h)
-
-swapped-bit : (m s w i : ℕ) → w < 2 ^ (m + s) → i < m + s → bit (w % 2 ^ m * 2 ^ s + w / 2 ^ m) ((i + s) % (m + s)) ≡ bit w i
-swapped-bit m s w i h l = ⊎-elim down up (le-or-lt m i)
-  where
-    up : i < m → bit (w % 2 ^ m * 2 ^ s + w / 2 ^ m) ((i + s) % (m + s)) ≡ bit w i
-    up k =
-        let e : i + s < m + s = omega arith in
-        ap (bit (w % 2 ^ m * 2 ^ s + w / 2 ^ m)) (mod-eq-of-lt e ∙ add-comm i s)
-        ∙ bit-joined-high (w % 2 ^ m) s (w / 2 ^ m) (high-lt m s w h) i
-        ∙ bit-cut w m i k
-
-    down : m ≤ i → bit (w % 2 ^ m * 2 ^ s + w / 2 ^ m) ((i + s) % (m + s)) ≡ bit w i
-    down k =
-        let e : m + s ≤ i + s = omega arith in
-        let d : i + s - (m + s) ≡ i - m = omega arith in
-        let b : i - m < m + s = omega arith in
-        let q : m + (i - m) ≡ i = omega arith in
-        ap (bit (w % 2 ^ m * 2 ^ s + w / 2 ^ m)) (mod-eq-sub-mod e ∙ ap (λ (z : ℕ). z % (m + s)) d ∙ mod-eq-of-lt b)
-        ∙ bit-joined-low (w % 2 ^ m) s (w / 2 ^ m) (high-lt m s w h) (i - m) (omega arith)
-        ∙ bit-shifted w m (i - m)
-        ∙ ap (bit w) q
-
--- a rotation by k brings bit i to bit i + k, counted round the n bits
-pub rotate-bit : (n w k i : ℕ) → w < 2 ^ n → i < n → bit (rotateLeft n w k) ((i + k) % n) ≡ bit w i
-rotate-bit n w k i h l =
-    let s : ℕ = k % n in
-    let p : 0 < n = omega arith in
-    ap₂ bit (rotate-swaps n w k p) (sym (add-mod-mod i k n))
-    ∙ subst
-    (λ (x : ℕ). w < 2 ^ x → i < x → bit (w % 2 ^ (n - s) * 2 ^ s + w / 2 ^ (n - s)) ((i + s) % x) ≡ bit w i)
-    (sub-add-cancel (le-of-lt (mod-lt k p)))
-    (swapped-bit (n - s) s w i)
-    h
-    l
+use Rattle.word.specs.Laws.Bits.{bit-shifted, bit-joined-low, bit-ones, bit-beyond, bit-ones-above, sign-set, sign-clear}
 
 pub mask-lt : (n k : ℕ) → mask n k < 2 ^ n
 unfolding mask
 mask-lt n k = omega (arith, pow-pos (n - k), pow-pos n)
+
+-- k ones above n - k zeros
+mask-joined : (n k : ℕ) → k ≤ n → mask n k ≡ (2 ^ k - 1) * 2 ^ (n - k)
+unfolding mask
+mask-joined n k l =
+    let e : k + (n - k) ≡ n = omega arith in
+    ap (λ (x : ℕ). 2 ^ x - 2 ^ (n - k)) (sym e) ∙ high-ones k (n - k)
+
+-- from n up the mask is that of n
+mask-full : (n k : ℕ) → n ≤ k → mask n k ≡ 2 ^ n - 1
+unfolding mask
+mask-full n k l =
+    let e : n - k ≡ 0 = omega arith in
+    ap (λ (x : ℕ). 2 ^ n - 2 ^ x) e
 
 -- a value of n bits, shifted right by k
 pub shift-lt : (n k w : ℕ) → w < 2 ^ n → shiftRight w k < 2 ^ (n - k)
@@ -102,19 +50,52 @@ signed-lt n w k h =
     let q = shift-lt n k w h in
     of-cond (λ (r : ℕ). w / 2 ^ k + r < 2 ^ n) (negative n w) (λ t. omega arith) (λ t. omega arith)
 
+-- a negative value shifted right by k: k ones above what is left
+signed-joined : (n w k : ℕ) → k ≤ n → w / 2 ^ k + mask n k ≡ (2 ^ k - 1) * 2 ^ (n - k) + w / 2 ^ k
+signed-joined n w k l = ap (λ (x : ℕ). w / 2 ^ k + x) (mask-joined n k l) ∙ add-comm (w / 2 ^ k) ((2 ^ k - 1) * 2 ^ (n - k))
+
+-- a signed shift right by k brings bit i + k to bit i
+pub signed-bit : (n w k i : ℕ) → w < 2 ^ n → i + k < n → bit (shiftRightSigned n w k) i ≡ bit w (i + k)
+unfolding shiftRightSigned
+signed-bit n w k i h l =
+    let e : bit (w / 2 ^ k) i ≡ bit w (i + k) = bit-shifted w k i ∙ ap (bit w) (add-comm k i) in
+    of-cond (λ (r : ℕ). bit (w / 2 ^ k + r) i ≡ bit w (i + k)) (negative n w)
+    (λ t. ap (λ (x : ℕ). bit x i) (signed-joined n w k (omega arith)) ∙ bit-joined-low (2 ^ k - 1) (n - k) (w / 2 ^ k) (shift-lt n k w h) i (omega arith) ∙ e)
+    (λ t. ap (λ (x : ℕ). bit x i) (add-zero (w / 2 ^ k)) ∙ e)
+
+-- and fills the k bits at the top, or all, with the sign
+pub signed-fill : (n w k i : ℕ) → w < 2 ^ n → i < n → n ≤ i + k → bit (shiftRightSigned n w k) i ≡ bit w (n - 1)
+unfolding shiftRightSigned
+signed-fill n w k i h u l =
+    of-cond (λ (r : ℕ). bit (w / 2 ^ k + r) i ≡ bit w (n - 1)) (negative n w)
+    (λ t. ⊎-elim short long (le-or-lt k n) ∙ sym (sign-set n w (omega arith) h t))
+    (λ t. ap (λ (x : ℕ). bit x i) (add-zero (w / 2 ^ k)) ∙ bit-beyond (w / 2 ^ k) (n - k) i (shift-lt n k w h) (omega arith) ∙ sym (sign-clear n w t))
+  where
+    short : k ≤ n → bit (w / 2 ^ k + mask n k) i ≡ 1
+    short q =
+        ap (λ (x : ℕ). bit x i) (signed-joined n w k q) ∙ bit-ones-above k (n - k) (w / 2 ^ k) i (shift-lt n k w h) (omega arith) (omega arith)
+
+    long : n < k → bit (w / 2 ^ k + mask n k) i ≡ 1
+    long q =
+        let e : w / 2 ^ k ≡ 0 = div-eq-of-lt (lt-of-lt-of-le h (pow-mono (le-of-lt q))) in
+        ap₂ (λ (x y : ℕ). bit (x + y) i) e (mask-full n k (le-of-lt q)) ∙ ap (λ (x : ℕ). bit x i) (zero-add (2 ^ n - 1)) ∙ bit-ones n i u
+
 pub nominal-count-lt : (b : ℕ) → nominalCount b < 2 ^ 6
 unfolding nominalCount
 nominal-count-lt b = mod-lt _ (pow-pos 6)
 
+nominal-lt : (left : Bool) (b x : ℕ) → x < 2 ^ 60 → nominal left b x < 2 ^ 60
+unfolding nominal
+nominal-lt left b x h =
+    of-cond (λ (r : ℕ). r < 2 ^ 60) left (λ t. rotate-lt 60 x (nominalCount b) (omega arith) h) (λ t. signed-lt 60 x (nominalCount b) h)
+
 pub nominal-left-lt : (b x : ℕ) → x < 2 ^ 60 → nominalLeft b x < 2 ^ 60
 unfolding nominalLeft
-nominal-left-lt b x h =
-    of-cond (λ (r : ℕ). r < 2 ^ 60) (negative 18 b) (λ t. signed-lt 60 x (nominalCount b) h) (λ t. rotate-lt 60 x (nominalCount b) (omega arith) h)
+nominal-left-lt b x h = nominal-lt _ b x h
 
 pub nominal-right-lt : (b x : ℕ) → x < 2 ^ 60 → nominalRight b x < 2 ^ 60
 unfolding nominalRight
-nominal-right-lt b x h =
-    of-cond (λ (r : ℕ). r < 2 ^ 60) (negative 18 b) (λ t. rotate-lt 60 x (nominalCount b) (omega arith) h) (λ t. signed-lt 60 x (nominalCount b) h)
+nominal-right-lt b x h = nominal-lt _ b x h
 
 pub shift-a-lt : (d a : ℕ) → a < 2 ^ 18 → shiftA d a < 2 ^ 18
 unfolding shiftA

@@ -1,13 +1,14 @@
 -- What the sums of n bits come to, for every n. Assumes nothing.
 use mathlib.Core.Logic.{⊎-elim}
-use mathlib.Core.Path.{_≡_, sym, ap, _∙_}
-use Prim.Native.Nat.{ℕ, _+_, _-_, _^_, _≤_, _<_}
-use native.Mathlib.Nat.{add-comm}
+use mathlib.Core.Path.{_≡_, refl, sym, ap, _∙_}
+use Prim.Native.Nat.{ℕ, _+_, _-_, _*_, _^_, _≤_, _<_}
+use native.Mathlib.Nat.{add-comm, sub-add-cancel}
 use native.Mathlib.Omega.{arith}
 use borrow.Author.Tests.{lt-ltb, le-ltb}
-use lib.Pow.{pow-pos, pow-mono}
-use Rattle.word.specs.Bits.{negative}
+use lib.Pow.{pow-pos, pow-mono, high-ones}
+use Rattle.word.specs.Bits.{bit, negative}
 use Rattle.word.specs.Sums.{complement, sum, difference, signExtend}
+use Rattle.word.specs.Laws.Bits.{bit-joined-low, bit-beyond, bit-ones-above, sign-set, sign-clear}
 use Rattle.word.specs.Laws.Choice.{of-cond, le-or-lt}
 
 pub complement-lt : (n a : ℕ) → complement n a < 2 ^ n
@@ -60,3 +61,25 @@ unfolding signExtend
 extend-lt n m a l h =
     let p : 2 ^ n ≤ 2 ^ m = pow-mono l in
     of-cond (λ (r : ℕ). r < 2 ^ m) (negative n a) (λ t. omega arith) (λ t. omega arith)
+
+extend-joined : (n m a : ℕ) → n ≤ m → a + (2 ^ m - 2 ^ n) ≡ (2 ^ (m - n) - 1) * 2 ^ n + a
+extend-joined n m a l =
+    ap (λ (x : ℕ). a + (2 ^ x - 2 ^ n)) (sym (sub-add-cancel l))
+    ∙ ap (λ (x : ℕ). a + x) (high-ones (m - n) n)
+    ∙ add-comm a ((2 ^ (m - n) - 1) * 2 ^ n)
+
+-- sign extension keeps the n bits
+pub extend-bit : (n m a i : ℕ) → n ≤ m → a < 2 ^ n → i < n → bit (signExtend n m a) i ≡ bit a i
+unfolding signExtend
+extend-bit n m a i l h u =
+    of-cond (λ (r : ℕ). bit r i ≡ bit a i) (negative n a)
+    (λ t. ap (λ (x : ℕ). bit x i) (extend-joined n m a l) ∙ bit-joined-low (2 ^ (m - n) - 1) n a h i u)
+    (λ t. refl)
+
+-- and has the sign in each bit above them
+pub extend-fill : (n m a i : ℕ) → 0 < n → n ≤ i → i < m → a < 2 ^ n → bit (signExtend n m a) i ≡ bit a (n - 1)
+unfolding signExtend
+extend-fill n m a i p l u h =
+    of-cond (λ (r : ℕ). bit r i ≡ bit a (n - 1)) (negative n a)
+    (λ t. ap (λ (x : ℕ). bit x i) (extend-joined n m a (omega arith)) ∙ bit-ones-above (m - n) n a i h l (omega arith) ∙ sym (sign-set n a p h t))
+    (λ t. bit-beyond a n i h l ∙ sym (sign-clear n a t))

@@ -11,11 +11,11 @@ is-zero-requires c κs = search needs
 is-zero-requires-2 : tie.Need-is-zero-requires-2
 is-zero-requires-2 c κs = search needs
 
-is-negative-requires : tie.Need-is-negative-requires
-is-negative-requires c κs = search needs
+is-negative60-requires : tie.Need-is-negative60-requires
+is-negative60-requires c κs = search needs
 
-is-negative-requires-2 : tie.Need-is-negative-requires-2
-is-negative-requires-2 c κs = search needs
+is-negative60-requires-2 : tie.Need-is-negative60-requires-2
+is-negative60-requires-2 c κs = search needs
 
 is-out-of-range-requires : tie.Need-is-out-of-range-requires
 is-out-of-range-requires c κs = search needs
@@ -39,11 +39,11 @@ returns-2 c = rw (c .before .match .keys2, c .is-zero2 .ensures)
 
 returns-3 : tie.Need-returns-3
 unfolding wordCondition
-returns-3 c = rw (c .before .match .keys3, c .is-negative .ensures)
+returns-3 c = rw (c .before .match .keys3, c .is-negative60 .ensures)
 
 returns-4 : tie.Need-returns-4
 unfolding wordCondition
-returns-4 c = rw (c .before .match .keys4, c .is-negative2 .ensures)
+returns-4 c = rw (c .before .match .keys4, c .is-negative602 .ensures)
 
 returns-5 : tie.Need-returns-5
 unfolding wordCondition
@@ -67,8 +67,8 @@ word-condition-spec =
     (tie.spec
     is-zero-requires
     is-zero-requires-2
-    is-negative-requires
-    is-negative-requires-2
+    is-negative60-requires
+    is-negative60-requires-2
     is-out-of-range-requires
     is-out-of-range-requires-2
     is-indefinite-requires

@@ -1,35 +1,18 @@
 -- `word::shifts::nominal_right` meets its contract. Assumes nothing.
-use native.Mathlib.Omega.{arith}
-use borrow.Author.Tests.{le-leb, lt-leb}
 use borrow.Author.Needs.{needs}
 use Rattle.word.specs.Shifts.{nominalRight}
-use Rattle.word.specs.Laws.Shifts.{nominal-count-lt}
 use Rattle.word.proofs.shifts.nominal_right.Statement.{statement}
 use Rattle.word.proofs.shifts.nominal_right.Tie as tie
 
-nominal-count-requires : tie.Need-nominal-count-requires
-nominal-count-requires c κs = search needs
+is-negative18-requires : tie.Need-is-negative18-requires
+is-negative18-requires c κs = search needs
 
-rotate-left60-requires : tie.Need-rotate-left60-requires
-rotate-left60-requires c κs = search needs
-
-shift-right60-requires : tie.Need-shift-right60-requires
-shift-right60-requires c κs = omega (arith, nominal-count-lt (c .before .before .args .b), c .before .nominal-count .ensures)
+nominal-requires : tie.Need-nominal-requires
+nominal-requires c κs = search needs
 
 returns : tie.Need-returns
 unfolding nominalRight
-returns c = simp (le-leb _ _ (c .before .if1 .taken), ← c .before .before .nominal-count .ensures) (c .rotate-left60 .ensures)
-
-returns-2 : tie.Need-returns-2
-unfolding nominalRight
-returns-2 c = simp (lt-leb _ _ (c .before .if1 .left), ← c .before .before .nominal-count .ensures) (c .shift-right60 .ensures)
+returns c = rw (← c .before .is-negative18 .ensures) (c .nominal .ensures)
 
 pub nominal-right-spec : {M : Type 1} → statement M
-nominal-right-spec =
-    tie.close
-    (tie.spec
-    nominal-count-requires
-    rotate-left60-requires
-    shift-right60-requires
-    returns
-    returns-2)
+nominal-right-spec = tie.close (tie.spec is-negative18-requires nominal-requires returns)
