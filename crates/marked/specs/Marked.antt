@@ -1,6 +1,6 @@
--- The marked results of document 01 as one table, `Marked`, with one theorem that all hold, `marked`. Nine of the twelve stand here: those
--- that the words settle. Still to come, with the central turn: 010 to K = 2 at P = 0, and P = FL - 1 and P = FL. With the peripheral
--- turn: SOD on a processor; here are its sums.
+-- The twelve marked results of document 01 as one table, `Marked`, with one theorem that all hold, `marked`.
+-- Still to come, with the central turn: 010 to K = 2 at P = 0, and P = FL - 1 and P = FL. With the peripheral turn: SOD on a processor's
+-- memory; its two sums are here.
 -- Assumes nothing.
 use mathlib.Core.Path.{_≡_, refl}
 use Prim.Native.Nat.{ℕ, _^_, _≤_, _<_}

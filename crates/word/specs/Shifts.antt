@@ -6,7 +6,7 @@ use lib.Dec.{ltb}
 use Rattle.word.specs.Bits.{low, negative}
 use Rattle.word.specs.Sums.{complement}
 
--- left in a circle by k places, of which n go once round: what leaves the n bits at the top comes in at the bottom
+-- left circular shift by k places, of which n bring every bit back: what leaves the n bits at the top comes in at the bottom
 unfoldable pub rotateLeft : ℕ → ℕ → ℕ → ℕ
 rotateLeft n w k = w * 2 ^ (k % n) % 2 ^ n + w * 2 ^ (k % n) / 2 ^ n
 
@@ -14,11 +14,11 @@ rotateLeft n w k = w * 2 ^ (k % n) % 2 ^ n + w * 2 ^ (k % n) / 2 ^ n
 unfoldable pub mask : ℕ → ℕ → ℕ
 mask n k = 2 ^ n - 2 ^ (n - k)
 
--- right by k places, end off, with zeros from the top
+-- right shift by k places, end off, with zeros from the top
 abbrev pub shiftRight : ℕ → ℕ → ℕ
 shiftRight w k = w / 2 ^ k
 
--- right by k places, end off, with the sign extended
+-- right shift by k places, end off, with the sign extended
 unfoldable pub shiftRightSigned : ℕ → ℕ → ℕ → ℕ
 shiftRightSigned n w k = shiftRight w k + cond (negative n w) (mask n k) 0
 
@@ -26,7 +26,7 @@ shiftRightSigned n w k = shiftRight w k + cond (negative n w) (mask n k) 0
 unfoldable pub nominalCount : ℕ → ℕ
 nominalCount b = low 6 (cond (negative 18 b) (complement 18 b) b)
 
--- left in a circle, or right end off with the sign extended
+-- 22 and 23 in either direction: left circular, or right with the sign extended
 unfoldable pub nominal : Bool → ℕ → ℕ → ℕ
 nominal left b x = cond left (rotateLeft 60 x (nominalCount b)) (shiftRightSigned 60 x (nominalCount b))
 
