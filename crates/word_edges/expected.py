@@ -132,34 +132,43 @@ def flags(values):
 AND = lambda x, y: x and y
 OR = lambda x, y: x or y
 XOR = lambda x, y: x != y
-for a in WORDS:
-    for b in WORDS:
-        n = complement(b, 60)
-        logical = [a] + [bitwise(f, a, b, 60) for f in (AND, OR, XOR)] + [n] + [bitwise(f, a, n, 60) for f in (AND, OR, XOR)]
-        line(word(a), word(b), word(total(a, b, 60)), word(less(a, b, 60)), *map(word, logical))
-for w in WORDS:
-    for k in range(64):
-        line(word(w), short(k), word(rotated(w, k, 60)), word(right(w, k, 60)), word(mask(k)))
-for w in WORDS:
-    bits = text(w, 60)
-    coefficient, exponent = unpacked(w)
-    line(word(w), word(complement(w, 60)), short(number(bits[-18:])), short(number(bits[-12:])), short(bits.count("1")),
-         word(coefficient), short(exponent), bits[0], flags(conditions(w)))
+CLEAR = lambda x, y: x and not y
+EDGES = list(zip(WORDS, SHORTS))
+
+
+def pair(x, y, a, b):
+    n = complement(y, 60)
+    logical = [x] + [bitwise(f, x, y, 60) for f in (AND, OR, XOR)] + [n] + [bitwise(f, x, n, 60) for f in (AND, OR, XOR)]
+    line(word(x), word(y), word(total(x, y, 60)), word(less(x, y, 60)), *map(word, logical))
+    results = [total(a, b, 18), less(a, b, 18)] + [bitwise(f, a, b, 18) for f in (AND, XOR, CLEAR)]
+    line(short(a), short(b), *map(short, results), flags(comparisons(a, b)))
+    sign = text(a, 18)[0]
+    line(short(a), word(y), short(complement(a, 18)), sign, word(number(sign * 42 + text(a, 18))),
+         word(nominal(a, y, True)), word(nominal(a, y, False)), word(packed(a, y)))
+
+
+def shift(x, a, k):
+    line(word(x), short(k), word(rotated(x, k, 60)), word(right(x, k, 60)), word(mask(k)))
+    line(short(a), short(k), short(shn(k, a)), short(rotated(a, k % 32, 18)), short(right(a, k % 32, 18, "0")))
+
+
+def alone(x):
+    bits = text(x, 60)
+    coefficient, exponent = unpacked(x)
+    line(word(x), word(complement(x, 60)), short(number(bits[-18:])), short(number(bits[-12:])), short(bits.count("1")),
+         word(coefficient), short(exponent), bits[0], flags(conditions(x)))
     parcels = [bits[i : i + 15] for i in range(0, 60, 15)]
     digits = [fields(p, 3) + [number(p[:6]), number(p[-6:])] for p in parcels]
     constants = [number(bits[15 * i : 15 * i + 30][-18:]) for i in range(3)]
     parts = [bits[i : i + 12] for i in range(0, 60, 12)]
     line(*map(short, sum(digits, []) + constants + [number(p) for p in parts]), word(number("".join(reversed(parts)))))
-for a in SHORTS:
-    for b in SHORTS:
-        results = [total(a, b, 18), less(a, b, 18), bitwise(AND, a, b, 18), bitwise(XOR, a, b, 18),
-                   bitwise(lambda x, y: x and not y, a, b, 18)]
-        line(short(a), short(b), *map(short, results), flags(comparisons(a, b)))
-for a in SHORTS:
-    for d in range(64):
-        line(short(a), short(d), short(shn(d, a)), short(rotated(a, d % 32, 18)), short(right(a, d % 32, 18, "0")))
-for b in SHORTS:
-    for x in WORDS:
-        extended = number(text(b, 18)[0] * 42 + text(b, 18))
-        line(short(b), word(x), short(complement(b, 18)), text(b, 18)[0], word(extended), word(nominal(b, x, True)),
-             word(nominal(b, x, False)), word(packed(b, x)))
+
+
+for x, a in EDGES:
+    for y, b in EDGES:
+        pair(x, y, a, b)
+for x, a in EDGES:
+    for k in range(64):
+        shift(x, a, k)
+for x in WORDS:
+    alone(x)

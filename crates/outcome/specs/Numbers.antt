@@ -36,16 +36,25 @@ refusalNumber Refused.TakeUnmet = 15
 refusalNumber Refused.UnreadableLine = 16
 
 abbrev pub centralStopNumber : CentralStop → ℕ
+-- 1 code 00
 centralStopNumber Central.Halt = 1
+-- 2 operand outside the field with EM bit 010000
 centralStopNumber Central.OperandOutside = 2
+-- 3 fetch, or the target of 010, outside the field
 centralStopNumber Central.FetchOutside = 3
+-- 4 a code left out, or 01 with i not 0
 centralStopNumber Central.UnfitCode = 4
+-- 5 a 30-bit code begun in the last parcel
 centralStopNumber Central.LastParcel = 5
 
 abbrev pub peripheralStopNumber : PeripheralStop → ℕ
+-- 31 central address of 60 or 62 at or past the end
 peripheralStopNumber Peripheral.CentralAddress = 31
+-- 32 no such channel, or 72, 74 to 77 on 14
 peripheralStopNumber Peripheral.NoChannel = 32
+-- 33, 34, 35 for package faults 9, 10, 11
 peripheralStopNumber Peripheral.PackagePastEnd = 33
 peripheralStopNumber Peripheral.StrayBits = 34
 peripheralStopNumber Peripheral.FieldPastEnd = 35
+-- 36 codes left out
 peripheralStopNumber Peripheral.UnfitCode = 36

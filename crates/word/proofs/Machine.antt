@@ -2,15 +2,15 @@
 use mathlib.Core.Logic.{⊎-elim}
 use mathlib.Core.Path.{_≡_, sym, ap, ap₂, _∙_, subst}
 use Prim.Native.Nat.{ℕ, _+_, _-_, _*_, _/_, _%_, _^_, _≤_, _<_}
-use native.Mathlib.Nat.{add-comm, add-zero, mod-lt, sub-add-cancel, div-eq-of-lt, lt-of-lt-of-le, le-of-lt}
+use native.Mathlib.Nat.{add-comm, add-zero, mod-lt, sub-add-cancel, le-of-lt}
 use native.Mathlib.Omega.{arith}
 use lib.Bits.{bitAnd, bitOr, and-mask, or-shifted, or-shifted-r}
-use lib.Pow.{pow-pos, pow-mono, not-mod, high-ones, mod-mod-pow, shr-lt, split, shl-exact, shl-lt}
+use lib.Pow.{pow-pos, not-mod, high-ones, mod-mod-pow, split, shl-exact, shl-lt}
 use Rattle.word.specs.Sums.{complement}
 use Rattle.word.specs.Shifts.{rotateLeft, mask}
 use Rattle.word.specs.Laws.Choice.{le-or-lt}
-use Rattle.word.specs.Laws.Bits.{ones-shifted}
-use Rattle.word.specs.Laws.Rotation.{rotated-high, rotated-low}
+use Rattle.word.specs.Laws.Bits.{ones-shifted, shifted-out}
+use Rattle.word.specs.Laws.Rotation.{rotated-high, high-lt, rotate-swaps}
 use Rattle.word.specs.Laws.Shifts.{shift-lt}
 
 -- the complement of n bits in a machine word of j + n
@@ -26,24 +26,22 @@ or-ones j k a h =
     ∙ ap (λ (x : ℕ). a + x) (sym (high-ones j k))
 
 rotated-at : (j m s w : ℕ) → w < 2 ^ (m + s)
-    → bitOr (bitAnd (w * 2 ^ s % 2 ^ (j + (m + s))) (2 ^ (m + s) - 1)) (w / 2 ^ m) ≡ w * 2 ^ s % 2 ^ (m + s) + w * 2 ^ s / 2 ^ (m + s)
+    → bitOr (bitAnd (w * 2 ^ s % 2 ^ (j + (m + s))) (2 ^ (m + s) - 1)) (w / 2 ^ m) ≡ w % 2 ^ m * 2 ^ s + w / 2 ^ m
 rotated-at j m s w h =
     let high = and-mask (w * 2 ^ s % 2 ^ (j + (m + s))) (m + s) ∙ mod-mod-pow (w * 2 ^ s) j (m + s) ∙ rotated-high m s w in
-    ap (λ (x : ℕ). bitOr x (w / 2 ^ m)) high
-    ∙ or-shifted (w % 2 ^ m) s (w / 2 ^ m) (shr-lt s m (subst (λ (x : ℕ). w < 2 ^ x) (add-comm m s) h))
-    ∙ ap₂ (λ (x y : ℕ). x + y) (sym (rotated-high m s w)) (sym (rotated-low m s w))
+    ap (λ (x : ℕ). bitOr x (w / 2 ^ m)) high ∙ or-shifted (w % 2 ^ m) s (w / 2 ^ m) (high-lt m s w h)
 
 -- a rotation of n bits by k % n places, in a machine word of j + n
 pub rotated : (j n w k : ℕ) → 0 < n → w < 2 ^ n
     → bitOr (bitAnd (w * 2 ^ (k % n) % 2 ^ (j + n)) (2 ^ n - 1)) (w / 2 ^ (n - k % n)) ≡ rotateLeft n w k
-unfolding rotateLeft
 rotated j n w k p h =
     let s : ℕ = k % n in
     subst
-    (λ (x : ℕ). w < 2 ^ x → bitOr (bitAnd (w * 2 ^ s % 2 ^ (j + x)) (2 ^ x - 1)) (w / 2 ^ (n - s)) ≡ w * 2 ^ s % 2 ^ x + w * 2 ^ s / 2 ^ x)
+    (λ (x : ℕ). w < 2 ^ x → bitOr (bitAnd (w * 2 ^ s % 2 ^ (j + x)) (2 ^ x - 1)) (w / 2 ^ (n - s)) ≡ w % 2 ^ (n - s) * 2 ^ s + w / 2 ^ (n - s))
     (sub-add-cancel (le-of-lt (mod-lt k p)))
     (rotated-at j (n - s) s w)
     h
+    ∙ sym (rotate-swaps n w k p)
 
 -- the mask is the complement of the ones shifted right
 pub mask-is : (n k : ℕ) → complement n ((2 ^ n - 1) / 2 ^ k) ≡ mask n k
@@ -63,7 +61,7 @@ or-mask n k w h = ⊎-elim short long (le-or-lt k n)
 
     long : n < k → bitOr (w / 2 ^ k) (2 ^ n - 2 ^ (n - k)) ≡ w / 2 ^ k + (2 ^ n - 2 ^ (n - k))
     long l =
-        let e : w / 2 ^ k ≡ 0 = div-eq-of-lt (lt-of-lt-of-le h (pow-mono (le-of-lt l))) in
+        let e : w / 2 ^ k ≡ 0 = shifted-out w n k h (le-of-lt l) in
         ap (λ (x : ℕ). bitOr x (2 ^ n - 2 ^ (n - k))) e ∙ omega (arith, e)
 
 -- y set below the digits of x

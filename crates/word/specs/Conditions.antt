@@ -10,13 +10,17 @@ use Rattle.word.specs.Bits.{negative}
 abbrev pub isZero : ℕ → Bool
 isZero x = eqb x 0 || eqb x (2 ^ 60 - 1)
 
--- out of range: "top 12 bits 3777 or 4000"
-abbrev pub isOutOfRange : ℕ → Bool
-isOutOfRange x = eqb (x / 2 ^ 48) 0o3777 || eqb (x / 2 ^ 48) 0o4000
+-- the top 12 bits are a or b
+abbrev pub topIs : ℕ → ℕ → ℕ → Bool
+topIs x a b = eqb (x / 2 ^ 48) a || eqb (x / 2 ^ 48) b
 
--- indefinite: "1777 or 6000"
+-- "out of range (top 12 bits 3777 or 4000)"
+abbrev pub isOutOfRange : ℕ → Bool
+isOutOfRange x = topIs x 0o3777 0o4000
+
+-- "indefinite (1777 or 6000)"
 abbrev pub isIndefinite : ℕ → Bool
-isIndefinite x = eqb (x / 2 ^ 48) 0o1777 || eqb (x / 2 ^ 48) 0o6000
+isIndefinite x = topIs x 0o1777 0o6000
 
 -- 03, i = 0 to 7: "zero (either zero), not zero, plus, minus, in range, out of range, definite, indefinite"
 abbrev pub wordConditions : ℕ → List Bool

@@ -1,7 +1,7 @@
 // The conditions of the branches 03 to 07.
 ghost use mathlib.Core.Path.{_≡_};
 ghost use Prim.Native.Nat.{_<_, _≤_};
-ghost use Rattle.word.specs.Conditions.{isZero, isOutOfRange, isIndefinite, wordCondition, isLess, comparison};
+ghost use Rattle.word.specs.Conditions.{isZero, topIs, isOutOfRange, isIndefinite, wordCondition, isLess, comparison};
 use super::sums::is_negative60;
 
 fn is_zero(x: u64) -> bool
@@ -10,18 +10,23 @@ fn is_zero(x: u64) -> bool
     x == 0 || x == 0o77777777777777777777
 }
 
+fn top_is(x: u64, a: u64, b: u64) -> bool
+    ensures { λ r. ⌜ r ≡ topIs x a b ⌝ }
+{
+    let top = x >> 48;
+    top == a || top == b
+}
+
 fn is_out_of_range(x: u64) -> bool
     ensures { λ r. ⌜ r ≡ isOutOfRange x ⌝ }
 {
-    let top = x >> 48;
-    top == 0o3777 || top == 0o4000
+    top_is(x, 0o3777, 0o4000)
 }
 
 fn is_indefinite(x: u64) -> bool
     ensures { λ r. ⌜ r ≡ isIndefinite x ⌝ }
 {
-    let top = x >> 48;
-    top == 0o1777 || top == 0o6000
+    top_is(x, 0o1777, 0o6000)
 }
 
 // Code 03 with i, of Xj.

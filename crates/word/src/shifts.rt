@@ -106,10 +106,16 @@ pub fn shift_a(d: u64, a: u64) -> u64
     }
 }
 
+fn wide(n: u32) -> u64
+    ensures { λ r. ⌜ r ≡ n ⌝ }
+{
+    n as u64
+}
+
 // 47.
 pub fn count_ones60(w: u64) -> u64
     requires { ⌜ w < 2 ^ 60 ⌝ }
     ensures { λ r. ⌜ r ≡ countOnes 60 w ⌝ }
 {
-    u64::count_ones(w) as u64
+    wide(u64::count_ones(w))
 }

@@ -1,7 +1,6 @@
 // Operations on values of 18 bits, alone and with a word.
 ghost use Prim.Native.Nat.{_<_, _^_};
 use super::show;
-use super::values60;
 use word::conditions::comparison;
 use word::floating::pack;
 use word::logic::logical_difference;
@@ -33,7 +32,7 @@ const EDGES: [u64; 12] = [
     0o777777,
 ];
 
-fn edge(i: usize) -> u64
+pub(crate) fn edge(i: usize) -> u64
     requires { ⌜ i < 12 ⌝ }
     ensures { λ r. ⌜ r < 2 ^ 18 ⌝ }
 {
@@ -47,7 +46,7 @@ fn comparisons(a: u64, b: u64) {
     show::flag(comparison(7, a, b));
 }
 
-fn pair(a: u64, b: u64)
+pub(crate) fn pair(a: u64, b: u64)
     requires { ⌜ (a < 2 ^ 18) × (b < 2 ^ 18) ⌝ }
 {
     show::short(a);
@@ -61,13 +60,7 @@ fn pair(a: u64, b: u64)
     show::end_line();
 }
 
-pub(crate) fn pairs() {
-    for i in 0..144usize {
-        pair(edge(i / 12), edge(i % 12));
-    }
-}
-
-fn shift(a: u64, d: u64)
+pub(crate) fn shift(a: u64, d: u64)
     requires { ⌜ (a < 2 ^ 18) × (d < 64) ⌝ }
 {
     show::short(a);
@@ -78,13 +71,7 @@ fn shift(a: u64, d: u64)
     show::end_line();
 }
 
-pub(crate) fn shifts() {
-    for i in 0..768u64 {
-        shift(edge((i / 64) as usize), i % 64);
-    }
-}
-
-fn with_word(b: u64, x: u64)
+pub(crate) fn with_word(b: u64, x: u64)
     requires { ⌜ (b < 2 ^ 18) × (x < 2 ^ 60) ⌝ }
 {
     show::short(b);
@@ -96,10 +83,4 @@ fn with_word(b: u64, x: u64)
     show::word(nominal_right(b, x));
     show::word(pack(b, x));
     show::end_line();
-}
-
-pub(crate) fn with_words() {
-    for i in 0..144usize {
-        with_word(edge(i / 12), values60::edge(i % 12));
-    }
 }

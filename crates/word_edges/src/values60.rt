@@ -58,7 +58,7 @@ fn logicals(a: u64, b: u64)
     show::word(logical(7, a, b));
 }
 
-fn pair(a: u64, b: u64)
+pub(crate) fn pair(a: u64, b: u64)
     requires { ⌜ (a < 2 ^ 60) × (b < 2 ^ 60) ⌝ }
 {
     show::word(a);
@@ -69,13 +69,7 @@ fn pair(a: u64, b: u64)
     show::end_line();
 }
 
-pub(crate) fn pairs() {
-    for i in 0..144usize {
-        pair(edge(i / 12), edge(i % 12));
-    }
-}
-
-fn shift(w: u64, k: u64)
+pub(crate) fn shift(w: u64, k: u64)
     requires { ⌜ (w < 2 ^ 60) × (k < 64) ⌝ }
 {
     show::word(w);
@@ -84,12 +78,6 @@ fn shift(w: u64, k: u64)
     show::word(shift_right60(w, k));
     show::word(mask60(k));
     show::end_line();
-}
-
-pub(crate) fn shifts() {
-    for i in 0..768u64 {
-        shift(edge((i / 64) as usize), i % 64);
-    }
 }
 
 fn conditions(w: u64) {
@@ -136,7 +124,7 @@ fn reversed(w: u64) -> u64 {
     from_parts(part(w, 4), part(w, 3), part(w, 2), part(w, 1), part(w, 0))
 }
 
-fn one_word(w: u64)
+pub(crate) fn alone(w: u64)
     requires { ⌜ w < 2 ^ 60 ⌝ }
 {
     show::word(w);
@@ -154,10 +142,4 @@ fn one_word(w: u64)
     parts(w);
     show::word(reversed(w));
     show::end_line();
-}
-
-pub(crate) fn words() {
-    for i in 0..12usize {
-        one_word(edge(i));
-    }
 }

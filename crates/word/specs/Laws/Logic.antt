@@ -23,23 +23,25 @@ differ-lt (suc zero) (suc zero) hx hy = omega arith
 differ-lt (suc zero) (suc (suc y)) hx hy = absurd (omega arith)
 differ-lt (suc (suc x)) y hx hy = absurd (omega arith)
 
--- a bit of the product is set where both are
+-- an operation that goes by f on each pair of digits does so on each pair of bits
+bit-by-bit : (op f : ℕ → ℕ → ℕ) → ((x y : ℕ) → x < 2 → y < 2 → f x y < 2)
+    → ((a b i : ℕ) → op a b / 2 ^ i ≡ op (a / 2 ^ i) (b / 2 ^ i))
+    → ((a b : ℕ) → op a b ≡ op (a / 2) (b / 2) * 2 + f (a % 2) (b % 2))
+    → (a b i : ℕ)
+    → bit (op a b) i ≡ f (bit a i) (bit b i)
+bit-by-bit op f small shr step a b i =
+    ap (λ (x : ℕ). x % 2) (shr a b i ∙ step (a / 2 ^ i) (b / 2 ^ i))
+    ∙ last-digit (op (a / 2 ^ i / 2) (b / 2 ^ i / 2)) (f (bit a i) (bit b i)) (small (bit a i) (bit b i) (bit-lt a i) (bit-lt b i))
+
+-- a bit of the product is set where both are, of the sum where one is, of the difference where they differ
 pub and-bit : (a b i : ℕ) → bit (bitAnd a b) i ≡ min (bit a i) (bit b i)
-and-bit a b i =
-    ap (λ (x : ℕ). x % 2) (and-shr a b i ∙ and-step (a / 2 ^ i) (b / 2 ^ i))
-    ∙ last-digit (bitAnd (a / 2 ^ i / 2) (b / 2 ^ i / 2)) (min (bit a i) (bit b i)) (omega arith)
+and-bit = bit-by-bit bitAnd min (λ x y hx hy. omega arith) and-shr and-step
 
--- of the sum where one is
 pub or-bit : (a b i : ℕ) → bit (bitOr a b) i ≡ max (bit a i) (bit b i)
-or-bit a b i =
-    ap (λ (x : ℕ). x % 2) (or-shr a b i ∙ or-step (a / 2 ^ i) (b / 2 ^ i))
-    ∙ last-digit (bitOr (a / 2 ^ i / 2) (b / 2 ^ i / 2)) (max (bit a i) (bit b i)) (omega arith)
+or-bit = bit-by-bit bitOr max (λ x y hx hy. omega arith) or-shr or-step
 
--- of the difference where they differ
 pub xor-bit : (a b i : ℕ) → bit (bitXor a b) i ≡ differ (bit a i) (bit b i)
-xor-bit a b i =
-    ap (λ (x : ℕ). x % 2) (xor-shr a b i ∙ xor-step (a / 2 ^ i) (b / 2 ^ i))
-    ∙ last-digit (bitXor (a / 2 ^ i / 2) (b / 2 ^ i / 2)) (differ (bit a i) (bit b i)) (differ-lt (bit a i) (bit b i) (bit-lt a i) (bit-lt b i))
+xor-bit = bit-by-bit bitXor differ differ-lt xor-shr xor-step
 
 -- the complement is the difference with all ones
 pub xor-ones : (n a : ℕ) → a < 2 ^ n → bitXor a (2 ^ n - 1) ≡ complement n a

@@ -33,7 +33,8 @@ rotate-swaps n w k p =
     (sub-add-cancel (le-of-lt (mod-lt k p)))
     (ap₂ (λ (x y : ℕ). x + y) (rotated-high (n - s) s w) (rotated-low (n - s) s w))
 
-high-lt : (m s w : ℕ) → w < 2 ^ (m + s) → w / 2 ^ m < 2 ^ s
+-- the high s of m + s bits
+pub high-lt : (m s w : ℕ) → w < 2 ^ (m + s) → w / 2 ^ m < 2 ^ s
 high-lt m s w h = shr-lt s m (subst (λ (x : ℕ). w < 2 ^ x) (add-comm m s) h)
 
 swapped-lt : (m s w : ℕ) → w < 2 ^ (m + s) → w % 2 ^ m * 2 ^ s + w / 2 ^ m < 2 ^ (m + s)

@@ -3,7 +3,7 @@ use mathlib.Core.Bool.{Bool}
 use mathlib.Core.Logic.{⊎-elim}
 use mathlib.Core.Path.{_≡_, sym, ap, ap₂, _∙_, subst}
 use Prim.Native.Nat.{ℕ, zero, suc, _+_, _-_, _*_, _/_, _%_, _^_, _≤_, _<_}
-use native.Mathlib.Nat.{add-comm, add-zero, sub-le, sub-add-cancel, mod-lt, div-eq-of-lt, lt-of-lt-of-le, le-of-lt, zero-add}
+use native.Mathlib.Nat.{add-comm, add-zero, sub-le, sub-add-cancel, mod-lt, le-of-lt, zero-add}
 use native.Mathlib.Omega.{arith}
 use lib.Arith.{lt-one}
 use lib.Count.{ones, onesIn, ones-step, ones-le}
@@ -13,7 +13,7 @@ use Rattle.word.specs.Bits.{bit, negative}
 use Rattle.word.specs.Shifts.{mask, shiftRight, shiftRightSigned, nominalCount, nominal, nominalLeft, nominalRight, shiftA, countOnes}
 use Rattle.word.specs.Laws.Rotation.{rotate-lt}
 use Rattle.word.specs.Laws.Choice.{of-cond, le-or-lt}
-use Rattle.word.specs.Laws.Bits.{bit-shifted, bit-joined-low, bit-ones, bit-beyond, bit-ones-above, sign-set, sign-clear}
+use Rattle.word.specs.Laws.Bits.{bit-shifted, bit-joined-low, bit-ones, bit-beyond, bit-ones-above, shifted-out, sign-set, sign-clear}
 
 pub mask-lt : (n k : ℕ) → mask n k < 2 ^ n
 unfolding mask
@@ -41,7 +41,7 @@ shift-lt n k w h = ⊎-elim short long (le-or-lt k n)
     short l = shr-lt (n - k) k (subst (λ (x : ℕ). w < 2 ^ x) (sym (sub-add-cancel l)) h)
 
     long : n < k → w / 2 ^ k < 2 ^ (n - k)
-    long l = omega (arith, div-eq-of-lt (lt-of-lt-of-le h (pow-mono (le-of-lt l))), pow-pos (n - k))
+    long l = omega (arith, shifted-out w n k h (le-of-lt l), pow-pos (n - k))
 
 pub signed-lt : (n w k : ℕ) → w < 2 ^ n → shiftRightSigned n w k < 2 ^ n
 unfolding shiftRightSigned mask
@@ -77,8 +77,8 @@ signed-fill n w k i h u l =
 
     long : n < k → bit (w / 2 ^ k + mask n k) i ≡ 1
     long q =
-        let e : w / 2 ^ k ≡ 0 = div-eq-of-lt (lt-of-lt-of-le h (pow-mono (le-of-lt q))) in
-        ap₂ (λ (x y : ℕ). bit (x + y) i) e (mask-full n k (le-of-lt q)) ∙ ap (λ (x : ℕ). bit x i) (zero-add (2 ^ n - 1)) ∙ bit-ones n i u
+        ap₂ (λ (x y : ℕ). bit (x + y) i) (shifted-out w n k h (le-of-lt q)) (mask-full n k (le-of-lt q))
+        ∙ ap (λ (x : ℕ). bit x i) (zero-add (2 ^ n - 1)) ∙ bit-ones n i u
 
 pub nominal-count-lt : (b : ℕ) → nominalCount b < 2 ^ 6
 unfolding nominalCount

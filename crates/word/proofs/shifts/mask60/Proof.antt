@@ -1,8 +1,8 @@
 -- `word::shifts::mask60` meets its contract. Assumes nothing.
 use mathlib.Core.Path.{_∙_}
-use Prim.Native.Nat.{_-_, _^_}
-use native.Mathlib.Omega.{arith}
+use native.Mathlib.Nat.{lt-of-le-of-lt}
 use borrow.Author.Needs.{needs}
+use lib.Dec.{lit<}
 use lib.Pow.{shr-le}
 use Rattle.word.proofs.Machine.{mask-is}
 use Rattle.word.proofs.shifts.mask60.Statement.{statement}
@@ -12,7 +12,7 @@ shr-complement60 : tie.Need-shr-complement60
 shr-complement60 c = search needs
 
 complement60-requires : tie.Need-complement60-requires
-complement60-requires c κs = omega (arith, shr-le (2 ^ 60 - 1) (c .args .k))
+complement60-requires c κs = lt-of-le-of-lt (shr-le _ _) (lit< tt)
 
 returns : tie.Need-returns
 returns c = c .complement60 .ensures ∙ mask-is 60 (c .before .args .k)

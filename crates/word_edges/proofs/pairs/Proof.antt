@@ -1,8 +1,8 @@
--- `word_edges::values18::pairs` meets its contract. Assumes nothing.
+-- `word_edges::pairs` meets its contract. Assumes nothing.
 use Prim.Native.Nat.{_≤_, _-_}
 use borrow.Author.Needs.{needs}
-use Rattle.word_edges.proofs.values18.pairs.Statement.{statement}
-use Rattle.word_edges.proofs.values18.pairs.Tie as tie
+use Rattle.word_edges.proofs.pairs.Statement.{statement}
+use Rattle.word_edges.proofs.pairs.Tie as tie
 
 abbrev Inv-loop : tie.InvT-loop
 Inv-loop i₀ i = i ≤ 144
@@ -21,6 +21,24 @@ edge-requires-2 c κs = search needs
 
 pair-requires : tie.Need-pair-requires Inv-loop μ-loop
 pair-requires c κs = search needs
+
+edge-requires-3 : tie.Need-edge-requires-3 Inv-loop μ-loop
+edge-requires-3 c κs = search needs
+
+edge-requires-4 : tie.Need-edge-requires-4 Inv-loop μ-loop
+edge-requires-4 c κs = search needs
+
+pair-requires-2 : tie.Need-pair-requires-2 Inv-loop μ-loop
+pair-requires-2 c κs = search needs
+
+edge-requires-5 : tie.Need-edge-requires-5 Inv-loop μ-loop
+edge-requires-5 c κs = search needs
+
+edge-requires-6 : tie.Need-edge-requires-6 Inv-loop μ-loop
+edge-requires-6 c κs = search needs
+
+with-word-requires : tie.Need-with-word-requires Inv-loop μ-loop
+with-word-requires c κs = search needs
 
 add-i : tie.Need-add-i Inv-loop μ-loop
 add-i c = search needs
@@ -44,6 +62,12 @@ pairs-spec =
     edge-requires
     edge-requires-2
     pair-requires
+    edge-requires-3
+    edge-requires-4
+    pair-requires-2
+    edge-requires-5
+    edge-requires-6
+    with-word-requires
     add-i
     loop-less
     loop-again

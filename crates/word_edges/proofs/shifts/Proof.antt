@@ -1,8 +1,8 @@
--- `word_edges::values60::shifts` meets its contract. Assumes nothing.
+-- `word_edges::shifts` meets its contract. Assumes nothing.
 use Prim.Native.Nat.{_≤_, _-_}
 use borrow.Author.Needs.{needs}
-use Rattle.word_edges.proofs.values60.shifts.Statement.{statement}
-use Rattle.word_edges.proofs.values60.shifts.Tie as tie
+use Rattle.word_edges.proofs.shifts.Statement.{statement}
+use Rattle.word_edges.proofs.shifts.Tie as tie
 
 abbrev Inv-loop : tie.InvT-loop
 Inv-loop i₀ i = i ≤ 768
@@ -18,6 +18,12 @@ edge-requires c κs = search needs
 
 shift-requires : tie.Need-shift-requires Inv-loop μ-loop
 shift-requires c κs = search needs
+
+edge-requires-2 : tie.Need-edge-requires-2 Inv-loop μ-loop
+edge-requires-2 c κs = search needs
+
+shift-requires-2 : tie.Need-shift-requires-2 Inv-loop μ-loop
+shift-requires-2 c κs = search needs
 
 add-i : tie.Need-add-i Inv-loop μ-loop
 add-i c = search needs
@@ -40,6 +46,8 @@ shifts-spec =
     loop-holds
     edge-requires
     shift-requires
+    edge-requires-2
+    shift-requires-2
     add-i
     loop-less
     loop-again

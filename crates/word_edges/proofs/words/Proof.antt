@@ -1,14 +1,14 @@
--- `word_edges::values18::shifts` meets its contract. Assumes nothing.
+-- `word_edges::words` meets its contract. Assumes nothing.
 use Prim.Native.Nat.{_≤_, _-_}
 use borrow.Author.Needs.{needs}
-use Rattle.word_edges.proofs.values18.shifts.Statement.{statement}
-use Rattle.word_edges.proofs.values18.shifts.Tie as tie
+use Rattle.word_edges.proofs.words.Statement.{statement}
+use Rattle.word_edges.proofs.words.Tie as tie
 
 abbrev Inv-loop : tie.InvT-loop
-Inv-loop i₀ i = i ≤ 768
+Inv-loop i₀ i = i ≤ 12
 
 abbrev μ-loop : tie.MeasureT-loop
-μ-loop i₀ i = 768 - i
+μ-loop i₀ i = 12 - i
 
 loop-holds : tie.Need-loop-holds Inv-loop μ-loop
 loop-holds c = search needs
@@ -16,8 +16,8 @@ loop-holds c = search needs
 edge-requires : tie.Need-edge-requires Inv-loop μ-loop
 edge-requires c κs = search needs
 
-shift-requires : tie.Need-shift-requires Inv-loop μ-loop
-shift-requires c κs = search needs
+alone-requires : tie.Need-alone-requires Inv-loop μ-loop
+alone-requires c κs = search needs
 
 add-i : tie.Need-add-i Inv-loop μ-loop
 add-i c = search needs
@@ -31,15 +31,15 @@ loop-again c = search needs
 returns : tie.Need-returns Inv-loop μ-loop
 returns c = search needs
 
-pub shifts-spec : {M : Type 1} → statement M
-shifts-spec =
+pub words-spec : {M : Type 1} → statement M
+words-spec =
     tie.close
     (tie.spec
     Inv-loop
     μ-loop
     loop-holds
     edge-requires
-    shift-requires
+    alone-requires
     add-i
     loop-less
     loop-again
