@@ -2,6 +2,8 @@
 use Prim.Native.Nat.{ℕ}
 use Rattle.outcome.specs.declared.refusal.Refusal.{Refusal}
 use Rattle.outcome.specs.declared.refusal.Refusal.the-variants as Refused
+use Rattle.outcome.specs.declared.refusal.Verdict.{Verdict}
+use Rattle.outcome.specs.declared.refusal.Verdict.the-variants as Call
 use Rattle.outcome.specs.declared.stop.CentralStop.{CentralStop}
 use Rattle.outcome.specs.declared.stop.CentralStop.the-variants as Central
 use Rattle.outcome.specs.declared.stop.PeripheralStop.{PeripheralStop}
@@ -34,6 +36,11 @@ refusalNumber Refused.PutUnmet = 14
 refusalNumber Refused.TakeUnmet = 15
 -- 16 unreadable line
 refusalNumber Refused.UnreadableLine = 16
+
+-- 0 for a call that meets no refusal
+abbrev pub verdictNumber : Verdict → ℕ
+verdictNumber Call.Accepted = 0
+verdictNumber (Call.Refused r) = refusalNumber r
 
 abbrev pub centralStopNumber : CentralStop → ℕ
 -- 1 code 00

@@ -1,6 +1,6 @@
-// Refusals 1 to 16.
+// Refusals 1 to 16, and the verdict on a call.
 ghost use mathlib.Core.Path.{_≡_};
-ghost use Rattle.outcome.specs.Numbers.{refusalNumber};
+ghost use Rattle.outcome.specs.Numbers.{refusalNumber, verdictNumber};
 
 // Why a call is not carried out.
 pub enum Refusal {
@@ -48,6 +48,24 @@ impl Refusal {
             Refusal::PutUnmet => 14,
             Refusal::TakeUnmet => 15,
             Refusal::UnreadableLine => 16,
+        }
+    }
+}
+
+// What becomes of a call.
+pub enum Verdict {
+    Accepted,
+    Refused(Refusal),
+}
+
+impl Verdict {
+    // 0 where the call is carried out.
+    pub fn number(self) -> u64
+        ensures { λ r. ⌜ r ≡ verdictNumber self ⌝ }
+    {
+        match self {
+            Verdict::Accepted => 0,
+            Verdict::Refused(r) => r.number(),
         }
     }
 }
