@@ -1,0 +1,60 @@
+use mathlib.Core.Path.{subst}
+use Rattle.central.specs.Apply.{returnJumped}
+use Rattle.central.specs.Laws.Widths.{place-within}
+use mathlib.Core.Path.{sym, _∙_}
+use Rattle.central.specs.Address.{Within}
+use Rattle.central.specs.declared.address.Place.{Place}
+use borrow.Author.Needs.{needs}
+use Rattle.central.proofs.apply.return_jump.Statement.{statement}
+use Rattle.central.proofs.apply.return_jump.Tie as tie
+use Rattle.central.proofs.apply.return_jump.Reads as reads
+use Rattle.central.proofs.apply.return_jump.Lts as lts
+use Rattle.central.proofs.address.convert.Reads as convert-reads
+use Rattle.central.proofs.address.index.Reads as index-reads
+
+convert-requires : tie.Need-convert-requires
+convert-requires c κs = search needs
+
+enum-known-a : tie.Need-enum-known-a
+enum-known-a c = search needs
+
+index-requires : tie.Need-index-requires
+index-requires c κs = subst (λ (p : Place). Within (c .before .before .before .before .before .args .b) p) (sym (c .before .before .before .convert .ensures) ∙ c .before .a .given .1) (place-within _ _)
+
+mul-f : tie.Need-mul-f
+mul-f c = search needs
+
+slice-write-f : tie.Need-slice-write-f
+slice-write-f c = search needs
+
+add-t12 : tie.Need-add-t12
+add-t12 c = search needs
+
+enum-told : tie.Need-enum-told
+enum-told c = search needs
+
+same-length : tie.Need-same-length
+same-length c = search needs
+
+returns : tie.Need-returns
+unfolding returnJumped
+returns c = rw (← c .before .before .before .before .convert .ensures, c .before .before .a .given .1, c .index .ensures .is)
+
+returns-2 : tie.Need-returns-2
+unfolding returnJumped
+returns-2 c = rw (← c .before .before .convert .ensures, c .enum-told .given .1)
+
+pub return-jump-spec : {M : Type 1} → statement M
+return-jump-spec =
+    tie.close
+    (tie.spec
+    convert-requires
+    enum-known-a
+    index-requires
+    mul-f
+    slice-write-f
+    add-t12
+    enum-told
+    same-length
+    returns
+    returns-2)

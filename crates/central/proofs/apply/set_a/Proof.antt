@@ -1,0 +1,39 @@
+use native.Mathlib.Omega.{arith}
+use borrow.Author.Tests.{eq-eqb, ne-eqb}
+use Rattle.central.specs.Apply.{aSet}
+use Rattle.central.specs.Laws.Widths.{place-within}
+use borrow.Author.Needs.{needs}
+use Rattle.central.proofs.apply.set_a.Statement.{statement}
+use Rattle.central.proofs.apply.set_a.Tie as tie
+use Rattle.central.proofs.apply.set_a.Reads as reads
+use Rattle.central.proofs.apply.set_a.Lts as lts
+use Rattle.central.proofs.address.convert.Reads as convert-reads
+use Rattle.central.proofs.apply.refer.Reads as refer-reads
+
+mul-r : tie.Need-mul-r
+mul-r c = search needs
+
+element-write-r : tie.Need-element-write-r
+element-write-r c = search needs
+
+returns : tie.Need-returns
+unfolding aSet
+returns c = rw (eq-eqb _ 0 (c .if1 .taken))
+
+convert-requires : tie.Need-convert-requires
+convert-requires c κs = search needs
+
+refer-requires : tie.Need-refer-requires
+refer-requires c κs = ((omega arith, c .before .before .before .before .before .pre .0), (c .before .before .before .before .before .pre .1, rw (c .before .before .convert .ensures) (place-within _ _)))
+
+same-length : tie.Need-same-length
+same-length c = search needs
+
+returns-2 : tie.Need-returns-2
+unfolding aSet
+returns-2 c = rw (ne-eqb _ 0 (c .before .before .before .before .before .before .if1 .left), ← c .before .before .before .before .before .convert .ensures) (c .before .before .refer .ensures)
+
+pub set-a-spec : {M : Type 1} → statement M
+set-a-spec =
+    tie.close
+    (tie.spec mul-r element-write-r returns convert-requires refer-requires same-length returns-2)

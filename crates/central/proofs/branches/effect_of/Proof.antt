@@ -1,0 +1,85 @@
+use Rattle.word.proofs.Match.{none-le}
+use lib.ListN.{List·getD-eq-default}
+use Rattle.central.specs.Effects.{firstBranches, branchOf}
+use borrow.Author.Needs.{needs}
+use Rattle.central.proofs.branches.effect_of.Statement.{statement}
+use Rattle.central.proofs.branches.effect_of.Tie as tie
+use Rattle.central.proofs.branches.effect_of.Reads as reads
+use Rattle.central.proofs.branches.effect_of.Lts as lts
+use Rattle.central.proofs.branches.return_word.Reads as return-word-reads
+use Rattle.central.proofs.effect.jump_if.Reads as jump-if-reads
+use Rattle.central.proofs.registers.b_of.Reads as b-of-reads
+use Rattle.central.proofs.registers.x_of.Reads as x-of-reads
+use Rattle.word.proofs.conditions.comparison.Reads as comparison-reads
+use Rattle.word.proofs.conditions.word_condition.Reads as word-condition-reads
+use Rattle.word.proofs.sums.sum18.Reads as sum18-reads
+
+return-word-requires : tie.Need-return-word-requires
+return-word-requires c κs = search needs
+
+b-of-requires : tie.Need-b-of-requires
+b-of-requires c κs = search needs
+
+sum18-requires : tie.Need-sum18-requires
+sum18-requires c κs = search needs
+
+x-of-requires : tie.Need-x-of-requires
+x-of-requires c κs = search needs
+
+word-condition-requires : tie.Need-word-condition-requires
+word-condition-requires c κs = search needs
+
+jump-if-requires : tie.Need-jump-if-requires
+jump-if-requires c κs = search needs
+
+b-of-requires-2 : tie.Need-b-of-requires-2
+b-of-requires-2 c κs = search needs
+
+b-of-requires-3 : tie.Need-b-of-requires-3
+b-of-requires-3 c κs = search needs
+
+comparison-requires : tie.Need-comparison-requires
+comparison-requires c κs = search needs
+
+jump-if-requires-2 : tie.Need-jump-if-requires-2
+jump-if-requires-2 c κs = search needs
+
+returns : tie.Need-returns
+unfolding branchOf
+returns c = rw (c .match .keys1)
+
+returns-2 : tie.Need-returns-2
+unfolding branchOf
+returns-2 c = rw (c .before .match .keys2, c .return-word .ensures)
+
+returns-3 : tie.Need-returns-3
+unfolding branchOf
+returns-3 c = rw (c .before .before .match .keys3, c .sum18 .ensures, c .before .b-of .ensures .is)
+
+returns-4 : tie.Need-returns-4
+unfolding branchOf
+returns-4 c = rw (c .before .before .before .match .keys4, c .jump-if .ensures, c .before .word-condition .ensures, c .before .before .x-of .ensures .is)
+
+returns-5 : tie.Need-returns-5
+unfolding branchOf
+returns-5 c = rw (List·getD-eq-default (firstBranches _ _ _) _ (none-le 4 _ (c .before .before .before .before .match .rest)), c .jump-if2 .ensures, c .before .comparison .ensures, c .before .before .b-of3 .ensures .is, c .before .before .before .b-of2 .ensures .is)
+
+pub effect-of-spec : {M : Type 1} → statement M
+effect-of-spec =
+    tie.close
+    (tie.spec
+    return-word-requires
+    b-of-requires
+    sum18-requires
+    x-of-requires
+    word-condition-requires
+    jump-if-requires
+    b-of-requires-2
+    b-of-requires-3
+    comparison-requires
+    jump-if-requires-2
+    returns
+    returns-2
+    returns-3
+    returns-4
+    returns-5)

@@ -1,0 +1,49 @@
+use Rattle.central.specs.Instruction.{decoded}
+use borrow.Author.Needs.{needs}
+use Rattle.central.proofs.instruction.decode.Statement.{statement}
+use Rattle.central.proofs.instruction.decode.Tie as tie
+use Rattle.central.proofs.instruction.decode.Reads as reads
+use Rattle.central.proofs.instruction.decode.Lts as lts
+use Rattle.central.proofs.instruction.constant_at.Reads as constant-at-reads
+use Rattle.word.proofs.fields.code.Reads as code-reads
+use Rattle.word.proofs.fields.digit.Reads as digit-reads
+use Rattle.word.proofs.fields.jk.Reads as jk-reads
+use Rattle.word.proofs.fields.parcel.Reads as parcel-reads
+
+parcel-requires : tie.Need-parcel-requires
+parcel-requires c κs = search needs
+
+digit-requires : tie.Need-digit-requires
+digit-requires c κs = search needs
+
+digit-requires-2 : tie.Need-digit-requires-2
+digit-requires-2 c κs = search needs
+
+digit-requires-3 : tie.Need-digit-requires-3
+digit-requires-3 c κs = search needs
+
+jk-requires : tie.Need-jk-requires
+jk-requires c κs = search needs
+
+code-requires : tie.Need-code-requires
+code-requires c κs = search needs
+
+constant-at-requires : tie.Need-constant-at-requires
+constant-at-requires c κs = search needs
+
+returns : tie.Need-returns
+unfolding decoded
+returns c = rw (c .constant-at .ensures, c .before .code .ensures, c .before .before .jk .ensures, c .before .before .before .digit3 .ensures, c .before .before .before .before .digit2 .ensures, c .before .before .before .before .before .digit .ensures, c .before .before .before .before .before .before .parcel .ensures)
+
+pub decode-spec : {M : Type 1} → statement M
+decode-spec =
+    tie.close
+    (tie.spec
+    parcel-requires
+    digit-requires
+    digit-requires-2
+    digit-requires-3
+    jk-requires
+    code-requires
+    constant-at-requires
+    returns)

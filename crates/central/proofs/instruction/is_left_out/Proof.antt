@@ -1,0 +1,16 @@
+use lib.Bits.{and-mask}
+use Rattle.central.specs.Laws.Codes.{left-out-marked}
+use borrow.Author.Needs.{needs}
+use Rattle.central.proofs.instruction.is_left_out.Statement.{statement}
+use Rattle.central.proofs.instruction.is_left_out.Tie as tie
+use Rattle.central.proofs.instruction.is_left_out.Reads as reads
+use Rattle.central.proofs.instruction.is_left_out.Lts as lts
+
+shr-result : tie.Need-shr-result
+shr-result c = search needs
+
+returns : tie.Need-returns
+returns c = rw (and-mask _ 1) (left-out-marked (c .args .code) (c .pre))
+
+pub is-left-out-spec : {M : Type 1} → statement M
+is-left-out-spec = tie.close (tie.spec shr-result returns)

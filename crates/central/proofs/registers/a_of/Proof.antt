@@ -1,0 +1,19 @@
+use mathlib.Core.Path.{refl}
+use native.Mathlib.Omega.{arith}
+use borrow.Author.Needs.{needs}
+use Rattle.central.proofs.registers.a_of.Statement.{statement}
+use Rattle.central.proofs.registers.a_of.Tie as tie
+use Rattle.central.proofs.registers.a_of.Reads as reads
+use Rattle.central.proofs.registers.a_of.Lts as lts
+
+mul-result : tie.Need-mul-result
+mul-result c = search needs
+
+element-copy-out-result : tie.Need-element-copy-out-result
+element-copy-out-result c = search needs
+
+returns : tie.Need-returns
+returns c = record { is = refl; small = c .before .pre .1 .short (c .before .args .i) (omega arith) }
+
+pub a-of-spec : {M : Type 1} → statement M
+a-of-spec = tie.close (tie.spec mul-result element-copy-out-result returns)

@@ -1,0 +1,18 @@
+use Rattle.word.specs.Floating.{unpackedFrom}
+use Rattle.central.specs.Effects.{unpackTo}
+use borrow.Author.Needs.{needs}
+use Rattle.central.proofs.shifts.unpack_to.Statement.{statement}
+use Rattle.central.proofs.shifts.unpack_to.Tie as tie
+use Rattle.central.proofs.shifts.unpack_to.Reads as reads
+use Rattle.central.proofs.shifts.unpack_to.Lts as lts
+use Rattle.word.proofs.floating.unpack.Reads as unpack-reads
+
+unpack-requires : tie.Need-unpack-requires
+unpack-requires c κs = search needs
+
+returns : tie.Need-returns
+unfolding unpackTo unpackedFrom
+returns c = rw (c .unpack .ensures)
+
+pub unpack-to-spec : {M : Type 1} → statement M
+unpack-to-spec = tie.close (tie.spec unpack-requires returns)

@@ -1,0 +1,85 @@
+use borrow.Author.Needs.{needs}
+use mathlib.Core.Path.{_∙_, sym}
+use Prim.Native.Nat.{_-_}
+use native.Mathlib.Omega.{arith}
+use Rattle.central.specs.State.{state}
+use Rattle.central.specs.Laws.Turn.{Going, going-start, going-on, going-branch, going-stop, going-end}
+use Rattle.central.proofs.turn.run_word.Statement.{statement}
+use Rattle.central.proofs.turn.run_word.Tie as tie
+use Rattle.central.proofs.turn.run_word.Reads as reads
+use Rattle.central.proofs.turn.run_word.Lts as lts
+use Rattle.central.proofs.step.step.Reads as step-reads
+use Rattle.outcome.proofs.stop.CentralStop.number.Reads as number-reads
+
+abbrev Inv-loop : tie.InvT-loop
+Inv-loop r₀ f₀ b p w place₀ r f place = Going b p w (state r₀ f₀) (state r f) place
+
+abbrev μ-loop : tie.MeasureT-loop
+μ-loop r₀ f₀ b p w place₀ r f place = 4 - place
+
+loop-holds : tie.Need-loop-holds Inv-loop μ-loop
+loop-holds c = going-start _ _ _ _ (c .before .pre .0)
+
+step-requires : tie.Need-step-requires Inv-loop μ-loop
+step-requires c κs = (c .before .before .before .loop .inv .kept .wide, (record { size = c .before .before .before .loop .inv .kept .size; room = c .before .before .before .before .before .pre .1 .0 }, (omega (arith, c .before .before .before .before .before .pre .1), c .before .before .loop-test .taken)))
+
+enum-known-next : tie.Need-enum-known-next Inv-loop μ-loop
+enum-known-next c = search needs
+
+loop-less : tie.Need-loop-less Inv-loop μ-loop
+loop-less c = omega (arith, going-on _ _ _ (omega (arith, c .before .before .before .before .before .before .before .before .before .before .before .pre .1 .0)) (c .before .before .before .before .before .before .before .before .before .before .before .pre .1 .1) _ _ _ (c .before .before .before .before .before .before .before .before .before .loop .inv) (c .before .before .before .before .before .before .before .before .loop-test .taken) _ (c .before .before .before .before .before .step .ensures) _ (c .before .next .given .1) .0, c .before .before .before .before .before .before .before .before .loop-test .taken)
+
+loop-again : tie.Need-loop-again Inv-loop μ-loop
+loop-again c = going-on _ _ _ (omega (arith, c .before .before .before .before .before .before .before .before .before .before .before .pre .1 .0)) (c .before .before .before .before .before .before .before .before .before .before .before .pre .1 .1) _ _ _ (c .before .before .before .before .before .before .before .before .before .loop .inv) (c .before .before .before .before .before .before .before .before .loop-test .taken) _ (c .before .before .before .before .before .step .ensures) _ (c .before .next .given .1) .1
+
+enum-known-target : tie.Need-enum-known-target Inv-loop μ-loop
+enum-known-target c = search needs
+
+same-length : tie.Need-same-length Inv-loop μ-loop
+same-length c = c .before .before .before .before .before .step .kept .1 .0 ∙ c .before .before .before .before .before .before .before .before .before .loop .inv .kept .size ∙ sym (c .before .before .before .before .before .before .before .before .before .before .before .pre .0 .size)
+
+returns : tie.Need-returns Inv-loop μ-loop
+returns c = going-branch _ _ _ (omega (arith, c .before .before .before .before .before .before .before .before .before .before .before .pre .1 .0)) (c .before .before .before .before .before .before .before .before .before .before .before .pre .1 .1) _ _ _ (c .before .before .before .before .before .before .before .before .before .loop .inv) (c .before .before .before .before .before .before .before .before .loop-test .taken) _ (c .before .before .before .before .before .step .ensures) _ (c .before .target .given .1)
+
+enum-known-s : tie.Need-enum-known-s Inv-loop μ-loop
+enum-known-s c = search needs
+
+number-requires : tie.Need-number-requires Inv-loop μ-loop
+number-requires c κs = search needs
+
+same-length-2 : tie.Need-same-length-2 Inv-loop μ-loop
+same-length-2 c = c .before .before .before .before .before .before .step .kept .1 .0 ∙ c .before .before .before .before .before .before .before .before .before .before .loop .inv .kept .size ∙ sym (c .before .before .before .before .before .before .before .before .before .before .before .before .pre .0 .size)
+
+returns-2 : tie.Need-returns-2 Inv-loop μ-loop
+returns-2 c = rw (c .number .ensures) (going-stop _ _ _ (omega (arith, c .before .before .before .before .before .before .before .before .before .before .before .before .pre .1 .0)) (c .before .before .before .before .before .before .before .before .before .before .before .before .pre .1 .1) _ _ _ (c .before .before .before .before .before .before .before .before .before .before .loop .inv) (c .before .before .before .before .before .before .before .before .before .loop-test .taken) _ (c .before .before .before .before .before .before .step .ensures) _ (c .before .before .s .given .1))
+
+add-t16 : tie.Need-add-t16 Inv-loop μ-loop
+add-t16 c = omega (arith, c .before .before .before .pre .1)
+
+same-length-3 : tie.Need-same-length-3 Inv-loop μ-loop
+same-length-3 c = c .before .loop .inv .kept .size ∙ sym (c .before .before .before .pre .0 .size)
+
+returns-3 : tie.Need-returns-3 Inv-loop μ-loop
+returns-3 c = going-end _ _ _ (omega (arith, c .before .before .before .pre .1 .0)) (c .before .before .before .pre .1 .1) _ _ _ (c .before .loop .inv) (c .loop-test .left)
+
+pub run-word-spec : {M : Type 1} → statement M
+run-word-spec =
+    tie.close
+    (tie.spec
+    Inv-loop
+    μ-loop
+    loop-holds
+    step-requires
+    enum-known-next
+    loop-less
+    loop-again
+    enum-known-target
+    same-length
+    returns
+    enum-known-s
+    number-requires
+    same-length-2
+    returns-2
+    add-t16
+    same-length-3
+    returns-3)

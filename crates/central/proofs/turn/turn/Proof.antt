@@ -1,0 +1,66 @@
+use mathlib.Core.Path.{_∙_, sym, subst}
+use native.Mathlib.Omega.{arith}
+use Rattle.central.specs.Address.{Within}
+use Rattle.central.specs.Turn.{turnOf}
+use Rattle.central.specs.Laws.Widths.{place-within, inside-below}
+use Rattle.central.specs.declared.address.Place.{Place}
+use borrow.Author.Needs.{needs}
+use Rattle.central.proofs.turn.turn.Statement.{statement}
+use Rattle.central.proofs.turn.turn.Tie as tie
+use Rattle.central.proofs.turn.turn.Reads as reads
+use Rattle.central.proofs.turn.turn.Lts as lts
+use Rattle.central.proofs.address.convert.Reads as convert-reads
+use Rattle.central.proofs.address.index.Reads as index-reads
+use Rattle.central.proofs.turn.run_word.Reads as run-word-reads
+use Rattle.outcome.proofs.stop.CentralStop.number.Reads as number-reads
+
+convert-requires : tie.Need-convert-requires
+convert-requires c κs = search needs
+
+enum-known-a : tie.Need-enum-known-a
+enum-known-a c = search needs
+
+index-requires : tie.Need-index-requires
+index-requires c κs = subst (λ (p : Place). Within (c .before .before .before .before .before .args .b) p) (sym (c .before .before .before .convert .ensures) ∙ c .before .a .given .1) (place-within _ _)
+
+mul-w : tie.Need-mul-w
+mul-w c = search needs
+
+slice-read-w : tie.Need-slice-read-w
+slice-read-w c = search needs
+
+run-word-requires : tie.Need-run-word-requires
+run-word-requires c κs = (c .before .before .before .before .before .before .before .before .before .pre .0, (c .before .before .before .before .before .before .before .before .before .pre .1, inside-below _ _ _ (sym (c .before .before .before .before .before .before .before .convert .ensures) ∙ c .before .before .before .before .before .a .given .1)))
+
+enum-told : tie.Need-enum-told
+enum-told c = search needs
+
+number-requires : tie.Need-number-requires
+number-requires c κs = search needs
+
+same-length : tie.Need-same-length
+same-length c = search needs
+
+returns : tie.Need-returns
+unfolding turnOf
+returns c = rw (← c .before .before .before .before .before .before .before .before .before .before .convert .ensures, c .before .before .before .before .before .before .before .before .a .given .1, ← c .before .before .before .before .before .before .index .ensures .is) (c .before .before .run-word .ensures)
+
+returns-2 : tie.Need-returns-2
+unfolding turnOf
+returns-2 c = rw (← c .before .before .before .convert .ensures, c .before .enum-told .given .1, c .number .ensures)
+
+pub turn-spec : {M : Type 1} → statement M
+turn-spec =
+    tie.close
+    (tie.spec
+    convert-requires
+    enum-known-a
+    index-requires
+    mul-w
+    slice-read-w
+    run-word-requires
+    enum-told
+    number-requires
+    same-length
+    returns
+    returns-2)

@@ -1,0 +1,59 @@
+use mathlib.Core.Path.{_∙_, sym}
+use Prim.Native.Nat.{_-_}
+use native.Mathlib.Omega.{arith}
+use Rattle.central.specs.State.{state}
+use Rattle.central.specs.Laws.Run.{Going, going-start, going-on, going-stop, going-end}
+use Rattle.central.proofs.turn.turns.Statement.{statement}
+use Rattle.central.proofs.turn.turns.Tie as tie
+use Rattle.central.proofs.turn.turns.Reads as reads
+use Rattle.central.proofs.turn.turns.Lts as lts
+use Rattle.central.proofs.turn.turn.Reads as turn-reads
+
+abbrev Inv-loop : tie.InvT-loop
+Inv-loop r₀ f₀ b p n at₀ made₀ r f at made = Going b n p (state r₀ f₀) (state r f) at made
+
+abbrev μ-loop : tie.MeasureT-loop
+μ-loop r₀ f₀ b p n at₀ made₀ r f at made = n - made
+
+loop-holds : tie.Need-loop-holds Inv-loop μ-loop
+loop-holds c = going-start _ _ _ _ (c .before .pre .1 .1) (c .before .pre .0)
+
+turn-requires : tie.Need-turn-requires Inv-loop μ-loop
+turn-requires c κs = (c .before .before .before .loop .inv .kept, c .before .before .before .before .before .pre .1 .0)
+
+add-made : tie.Need-add-made Inv-loop μ-loop
+add-made c = omega (arith, c .before .before .before .before .before .loop-test .taken)
+
+same-length : tie.Need-same-length Inv-loop μ-loop
+same-length c = c .before .before .before .before .turn .kept .1 .0 ∙ c .before .before .before .before .before .before .before .before .loop .inv .kept .size ∙ sym (c .before .before .before .before .before .before .before .before .before .before .pre .0 .size)
+
+returns : tie.Need-returns Inv-loop μ-loop
+returns c = going-stop _ (omega (arith, c .before .before .before .before .before .before .before .before .before .before .pre .1 .0)) _ _ _ _ _ _ (c .before .before .before .before .before .before .before .before .loop .inv) (c .before .before .before .before .before .before .before .loop-test .taken) _ (c .before .before .before .before .turn .ensures) (c .if1 .taken)
+
+loop-less : tie.Need-loop-less Inv-loop μ-loop
+loop-less c = omega arith
+
+loop-again : tie.Need-loop-again Inv-loop μ-loop
+loop-again c = going-on _ (omega (arith, c .before .before .before .before .before .before .before .before .before .before .pre .1 .0)) _ _ _ _ _ _ (c .before .before .before .before .before .before .before .before .loop .inv) (c .before .before .before .before .before .before .before .loop-test .taken) _ (c .before .before .before .before .turn .ensures) (c .if1 .left)
+
+same-length-2 : tie.Need-same-length-2 Inv-loop μ-loop
+same-length-2 c = c .before .loop .inv .kept .size ∙ sym (c .before .before .before .pre .0 .size)
+
+returns-2 : tie.Need-returns-2 Inv-loop μ-loop
+returns-2 c = going-end _ (omega (arith, c .before .before .before .pre .1 .0)) _ _ _ _ _ _ (c .before .loop .inv) (c .loop-test .left)
+
+pub turns-spec : {M : Type 1} → statement M
+turns-spec =
+    tie.close
+    (tie.spec
+    Inv-loop
+    μ-loop
+    loop-holds
+    turn-requires
+    add-made
+    same-length
+    returns
+    loop-less
+    loop-again
+    same-length-2
+    returns-2)

@@ -1,0 +1,104 @@
+-- A run as a loop over the turns, what it keeps, and runs one after the other. Assumes nothing.
+use mathlib.Core.Bool.{Bool, true, false, cond}
+use mathlib.Core.Path.{_≡_, refl, sym, ap, subst, _∙_}
+use Prim.Native.Nat.{ℕ, zero, suc, _+_, _^_, _≤_, _<_}
+use native.Mathlib.Omega.{arith}
+use borrow.Author.Tests.{eq-eqb, ne-eqb, eqb-true, eqb-false}
+use lib.Dec.{eqb, lit≤}
+use Rattle.word.specs.Laws.Choice.{of-cond}
+use Rattle.central.specs.State.{State}
+use Rattle.central.specs.Turn.{Turn, turnOf, Run, ran, runEnd, turnsBefore, afterTurn, turnsOf}
+use Rattle.central.specs.Widths.{Kept}
+use Rattle.central.specs.Laws.Turn.{Left, turn-left}
+use Rattle.central.specs.declared.address.Bounds.{Bounds}
+
+-- counts add up
+no-turns-before : (o : Run) → turnsBefore 0 o ≡ o
+no-turns-before o =
+    let e : 0 + o .end .turns ≡ o .end .turns = omega arith in
+    ap (λ (t : ℕ). ran (o .state) (runEnd (o .end .p) (o .end .stop) t)) e
+
+before-before : (i k : ℕ) (o : Run) → turnsBefore i (turnsBefore k o) ≡ turnsBefore (i + k) o
+before-before i k o =
+    let e : i + (k + o .end .turns) ≡ (i + k) + o .end .turns = omega arith in
+    ap (λ (t : ℕ). ran (o .state) (runEnd (o .end .p) (o .end .stop) t)) e
+
+-- the first turn of a run, where it stops and where it does not
+module _ (b : Bounds) (p n : ℕ) (s : State) (t : Turn) (e : t ≡ turnOf b p s) where
+  first-stops : (t .end .stop ≡ 0 → ⊥) → ran (t .state) (runEnd (t .end .p) (t .end .stop) 1) ≡ turnsOf (suc n) b p s
+  unfolding turnsOf
+  first-stops h = rw (← e, ne-eqb (t .end .stop) 0 h)
+
+  first-goes-on : t .end .stop ≡ 0 → turnsBefore 1 (turnsOf n b (t .end .p) (t .state)) ≡ turnsOf (suc n) b p s
+  unfolding turnsOf
+  first-goes-on h = rw (← e, eq-eqb (t .end .stop) 0 h)
+
+-- the state of the loop: with i turns made, what is left to run gives what the whole run gives
+pub record Going (b : Bounds) (n p₀ : ℕ) (s₀ s : State) (p i : ℕ) : Type 0 where
+  pub kept : Kept (b .fl) s
+  pub short : p < 2 ^ 18
+  pub left : ℕ
+  pub total : i + left ≡ n
+  pub is : turnsBefore i (turnsOf left b p s) ≡ turnsOf n b p₀ s₀
+
+pub going-start : (b : Bounds) (n p : ℕ) (s : State) → p < 2 ^ 18 → Kept (b .fl) s → Going b n p s s p 0
+going-start b n p s h k =
+    record { kept = k; short = h; left = n; total = omega arith; is = no-turns-before (turnsOf n b p s) }
+
+none-left : (b : Bounds) (p i left : ℕ) (s : State) → left ≡ 0 → ran s (runEnd p 0 i) ≡ turnsBefore i (turnsOf left b p s)
+unfolding turnsOf
+none-left b p i zero s e = let h : i ≡ i + 0 = omega arith in ap (λ (t : ℕ). ran s (runEnd p 0 t)) h
+none-left b p i (suc left) s e = absurd (omega arith)
+
+module _ (b : Bounds) (room : b .fl ≤ 131072) (n p₀ : ℕ) (s₀ s : State) (p i : ℕ) (g : Going b n p₀ s₀ s p i) where
+  pub going-end : n ≤ i → ran s (runEnd p 0 i) ≡ turnsOf n b p₀ s₀
+  going-end h = none-left b p i (g .left) s (omega (arith, g .total)) ∙ g .is
+
+  module _ (h : i < n) (t : Turn) (e : t ≡ turnOf b p s) where
+    stops : (left : ℕ) → i + left ≡ n → turnsBefore i (turnsOf left b p s) ≡ turnsOf n b p₀ s₀ → (t .end .stop ≡ 0 → ⊥)
+        → ran (t .state) (runEnd (t .end .p) (t .end .stop) (i + 1)) ≡ turnsOf n b p₀ s₀
+    stops zero l a o = absurd (omega arith)
+    stops (suc left) l a o = ap (turnsBefore i) (first-stops b p left s t e o) ∙ a
+
+    pub going-stop : (t .end .stop ≡ 0 → ⊥) → ran (t .state) (runEnd (t .end .p) (t .end .stop) (i + 1)) ≡ turnsOf n b p₀ s₀
+    going-stop o = stops (g .left) (g .total) (g .is) o
+
+    goes-on : (left : ℕ) → i + left ≡ n → turnsBefore i (turnsOf left b p s) ≡ turnsOf n b p₀ s₀ → t .end .stop ≡ 0
+        → Going b n p₀ s₀ (t .state) (t .end .p) (i + 1)
+    goes-on zero l a o = absurd (omega arith)
+    goes-on (suc left) l a o =
+        let after = subst (Left (b .fl)) (sym e) (turn-left (b .fl) b room p s (g .short) (g .kept)) in
+        record {
+          kept = after .kept;
+          short = after .p;
+          left = left;
+          total = omega arith;
+          is = sym (before-before i 1 _) ∙ ap (turnsBefore i) (first-goes-on b p left s t e o) ∙ a;
+        }
+
+    pub going-on : t .end .stop ≡ 0 → Going b n p₀ s₀ (t .state) (t .end .p) (i + 1)
+    going-on o = goes-on (g .left) (g .total) (g .is) o
+
+-- what a run leaves
+pub record RunLeft (n : ℕ) (o : Run) : Type 0 where
+  pub kept : Kept n (o .state)
+  pub p : o .end .p < 2 ^ 18
+  pub stop : o .end .stop ≤ 5
+
+module _ (n : ℕ) (b : Bounds) (room : b .fl ≤ 131072) where
+  pub run-left : (k p : ℕ) (s : State) → p < 2 ^ 18 → Kept n s → RunLeft n (turnsOf k b p s)
+  unfolding turnsOf
+  run-left zero p s h kept = record { kept = kept; p = h; stop = lit≤ tt }
+  run-left (suc k) p s h kept =
+      let t = turn-left n b room p s h kept in
+      of-cond (RunLeft n) (eqb (turnOf b p s .end .stop) 0)
+      (λ e. let o = run-left k _ _ (t .p) (t .kept) in record { kept = o .kept; p = o .p; stop = o .stop })
+      (λ e. record { kept = t .kept; p = t .p; stop = t .stop })
+
+-- a run makes at most the turns asked
+pub turns-most : (n : ℕ) (b : Bounds) (p : ℕ) (s : State) → turnsOf n b p s .end .turns ≤ n
+unfolding turnsOf
+turns-most zero b p s = lit≤ tt
+turns-most (suc n) b p s =
+    of-cond (λ (o : Run). o .end .turns ≤ suc n) (eqb (turnOf b p s .end .stop) 0)
+    (λ e. omega (arith, turns-most n b (turnOf b p s .end .p) (turnOf b p s .state))) (λ e. omega arith)

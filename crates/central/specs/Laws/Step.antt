@@ -1,0 +1,131 @@
+-- One instruction: by the results of its parts, what it keeps, and where it goes on. Assumes nothing.
+use mathlib.Core.Bool.{Bool, true, false, not, cond}
+use mathlib.Core.List.{List}
+use mathlib.Core.Path.{_≡_, refl, sym, ap, subst, _∙_}
+use Prim.Native.Nat.{ℕ, zero, suc, _+_, _-_, _^_, _≤_, _<_}
+use native.Mathlib.Omega.{arith}
+use borrow.Author.Tests.{lt-ltb, le-ltb, ltb-true, ltb-false, eq-eqb, ne-eqb}
+use lib.Dec.{eqb, ltb, lit<}
+use lib.ListN.{getD}
+use Rattle.outcome.specs.Numbers.{centralStopNumber}
+use Rattle.outcome.specs.declared.stop.CentralStop.{CentralStop}
+use Rattle.outcome.specs.declared.stop.CentralStop.the-variants as Because
+use Rattle.word.specs.Laws.Choice.{of-cond}
+use Rattle.central.specs.State.{State}
+use Rattle.central.specs.Instruction.{decoded, isLong, isFit, parcelsOf}
+use Rattle.central.specs.Effects.{effectOf}
+use Rattle.central.specs.Address.{placeOf, relative, indexOf}
+use Rattle.central.specs.Apply.{After, after, stopsOutside, referred, aSet, storedAt, returnJumped, applied}
+use Rattle.central.specs.Turn.{stoppedBy, ranAt, stepOf, Turn, turned, turnEnd, goOn, parcelsRun, wordRun, fetched, turnOf, Run, ran, runEnd, turnsBefore, afterTurn, turnsOf}
+use Rattle.central.specs.Widths.{Wide, Kept, Sound}
+use Rattle.central.specs.Laws.Effects.{decoded-fits, effect-sound}
+use Rattle.central.specs.Laws.Widths.{KeptAfter, apply-keeps}
+use Rattle.central.specs.declared.address.Bounds.{Bounds}
+use Rattle.central.specs.declared.address.Place.{Place}
+use Rattle.central.specs.declared.address.Place.the-variants.{Inside, Outside}
+use Rattle.central.specs.declared.apply.Step.{Step}
+use Rattle.central.specs.declared.apply.Step.the-variants as Then
+use Rattle.central.specs.declared.effect.Effect.{Effect}
+use Rattle.central.specs.declared.effect.Effect.the-variants.{Pass, Stop, Jump, ReturnJump, SetA, SetB, SetX, SetXB}
+use Rattle.central.specs.declared.instruction.Instruction.{Instruction}
+
+not-true : (t : Bool) → not t ≡ true → t ≡ false
+not-true true e = sym e
+not-true false e = refl
+
+not-false : (t : Bool) → not t ≡ false → t ≡ true
+not-false true e = refl
+not-false false e = sym e
+
+-- an instruction, by the results of its parts
+module _ (s : State) (b : Bounds) (p place : ℕ) (q : Instruction) (fit : Bool) (ef : fit ≡ isFit (q .code) (q .i)) where
+  pub ran-unfit : not fit ≡ true → stoppedBy s Because.UnfitCode ≡ ranAt s b p place q
+  unfolding ranAt
+  ran-unfit e = rw (← ef, not-true fit e)
+
+  module _ (e : not fit ≡ false) (next : ℕ) (en : next ≡ place + parcelsOf (q .code)) where
+    pub ran-cut : 4 < next → stoppedBy s Because.LastParcel ≡ ranAt s b p place q
+    unfolding ranAt
+    ran-cut h = rw (← ef, not-false fit e, ← en, lt-ltb 4 next h)
+
+    pub ran-whole : (f : Effect) (a : After) → next ≤ 4 → f ≡ effectOf (s .registers) q p → a ≡ applied s b f next → a ≡ ranAt s b p place q
+    unfolding ranAt
+    ran-whole f a h ee ea = rw (← ef, not-false fit e, ← en, le-ltb 4 next h, ← ee) ea
+
+-- an instruction has one or two parcels
+pub parcels-few : (c n : ℕ) → n ≡ parcelsOf c → (1 ≤ n) × (n ≤ 2)
+unfolding parcelsOf
+parcels-few c n e =
+    subst (λ (k : ℕ). (1 ≤ k) × (k ≤ 2)) (sym e)
+    (of-cond (λ (k : ℕ). (1 ≤ k) × (k ≤ 2)) (isLong c) (λ t. (omega arith, omega arith)) (λ t. (omega arith, omega arith)))
+
+-- a step keeps the widths
+pub step-keeps : (n : ℕ) (s : State) (b : Bounds) (p w place : ℕ) → p < 131072 → Kept n s → KeptAfter n (stepOf s b p w place)
+unfolding ranAt
+step-keeps n s b p w place h k =
+    of-cond (KeptAfter n) (isFit (decoded w place .code) (decoded w place .i))
+    (λ e. of-cond (KeptAfter n) (ltb 4 (place + parcelsOf (decoded w place .code))) (λ e. k)
+    (λ e. apply-keeps n s b _ _ (effect-sound (s .registers) (decoded w place) (k .wide) (decoded-fits w place) p h) k))
+    (λ e. k)
+
+-- a step either goes on past its instruction, or to a target of 18 bits, or stops
+abbrev pub Reached : ℕ → Step → Type 0
+Reached next (Then.Next place) = place ≡ next
+Reached next (Then.Branch target) = target < 2 ^ 18
+Reached next (Then.Stop c) = Unit {0}
+
+abbrev ReachedAfter : ℕ → After → Type 0
+ReachedAfter next a = Reached next (a .step)
+
+refer-reaches : (s : State) (b : Bounds) (i : ℕ) (p : Place) (next : ℕ) → ReachedAfter next (referred s b i p next)
+unfolding referred
+refer-reaches s b i (Inside a) next = of-cond (ReachedAfter next) (ltb i 6) (λ e. refl) (λ e. refl)
+refer-reaches s b i Outside next =
+    of-cond (ReachedAfter next) (stopsOutside b) (λ e. tt) (λ e. of-cond (ReachedAfter next) (ltb i 6) (λ e. refl) (λ e. refl))
+
+set-a-reaches : (s : State) (b : Bounds) (i v next : ℕ) → ReachedAfter next (aSet s b i v next)
+unfolding aSet
+set-a-reaches s b i v next =
+    of-cond (ReachedAfter next) (eqb i 0) (λ e. refl) (λ e. refer-reaches _ b i (placeOf b (relative v)) next)
+
+-- 010 goes to K + 1, which is at most FL
+return-reaches : (f : List ℕ) (b : Bounds) (k w next : ℕ) → b .fl ≤ 131072 → Reached next (returnJumped f b k w .step)
+unfolding returnJumped placeOf
+return-reaches f b k w next h =
+    of-cond (λ (p : Place). Reached next (storedAt f b k w p .step)) (ltb k (b .fl)) (λ e. omega (arith, ltb-true k (b .fl) e)) (λ e. tt)
+
+apply-reaches : (s : State) (b : Bounds) (e : Effect) (next : ℕ) → Sound e → b .fl ≤ 131072 → ReachedAfter next (applied s b e next)
+unfolding applied
+apply-reaches s b Pass next h l = refl
+apply-reaches s b (Stop _) next h l = tt
+apply-reaches s b (Jump _) next h l = h
+apply-reaches s b (ReturnJump k w) next h l = return-reaches (s .field) b k w next l
+apply-reaches s b (SetA i v) next h l = set-a-reaches s b i v next
+apply-reaches s b (SetB _ _) next h l = refl
+apply-reaches s b (SetX _ _) next h l = refl
+apply-reaches s b (SetXB _ _ _ _) next h l = refl
+
+abbrev pub Later : ℕ → Step → Type 0
+Later place (Then.Next next) = place < next
+Later place (Then.Branch target) = target < 2 ^ 18
+Later place (Then.Stop c) = Unit {0}
+
+further : (place next : ℕ) (o : Step) → place < next → Reached next o → Later place o
+further place next (Then.Next n) h e = omega (arith, e)
+further place next (Then.Branch t) h e = e
+further place next (Then.Stop c) h e = tt
+
+-- a step that goes on does so at a later place
+pub step-reaches : (n : ℕ) (s : State) (b : Bounds) (p w place : ℕ) → p < 131072 → b .fl ≤ 131072 → Kept n s
+    → Later place (stepOf s b p w place .step)
+unfolding ranAt
+step-reaches n s b p w place h l k =
+    let q = decoded w place in
+    let P : After → Type 0 = λ a. Later place (a .step) in
+    of-cond P (isFit (q .code) (q .i))
+    (λ e. of-cond P (ltb 4 (place + parcelsOf (q .code))) (λ e. tt)
+    (λ e.
+      further place (place + parcelsOf (q .code)) (applied s b (effectOf (s .registers) q p) (place + parcelsOf (q .code)) .step)
+      (omega (arith, parcels-few (q .code) _ refl))
+      (apply-reaches s b (effectOf (s .registers) q p) _ (effect-sound (s .registers) q (k .wide) (decoded-fits w place) p h) l)))
+    (λ e. tt)

@@ -1,0 +1,115 @@
+-- Effects keep the widths of registers and field, the field's length, and B0. Assumes nothing.
+use mathlib.Core.Bool.{Bool, true, false, cond}
+use mathlib.Core.List.{List, [], _∷_}
+use mathlib.Core.Path.{_≡_, refl, _∙_}
+use Prim.Native.Nat.{ℕ, zero, suc, _+_, _^_, _≤_, _<_}
+use native.Mathlib.Omega.{arith}
+use borrow.Author.Tests.{eqb-true, eqb-false, ltb-true}
+use lib.Dec.{eqb, ltb, lit<}
+use lib.ListN.{getD, set, length, length-set}
+use lib.Seq.{getD-set-other}
+use Rattle.word.specs.Laws.Choice.{of-cond}
+use Rattle.central.specs.State.{State, state}
+use Rattle.central.specs.Registers.{setA, setB, setX}
+use Rattle.central.specs.Address.{placeOf, relative, Within}
+use Rattle.central.specs.Apply.{After, after, stopsOutside, referred, aSet, Stored, storedAt, returnJumped, applied}
+use Rattle.central.specs.Widths.{Wide, Words, Kept, Sound}
+use Rattle.central.specs.declared.address.Bounds.{Bounds}
+use Rattle.central.specs.declared.address.Relative.{Relative}
+use Rattle.central.specs.declared.address.Absolute.{Absolute}
+use Rattle.central.specs.declared.address.Place.{Place}
+use Rattle.central.specs.declared.address.Place.the-variants.{Inside, Outside}
+use Rattle.central.specs.declared.effect.Effect.{Effect}
+use Rattle.central.specs.declared.effect.Effect.the-variants.{Pass, Stop, Jump, ReturnJump, SetA, SetB, SetX, SetXB}
+
+pub place-within : (b : Bounds) (a : Relative) → Within b (placeOf b a)
+unfolding placeOf
+place-within b a =
+    of-cond (Within b) (ltb (a .0) (b .fl)) (λ e. let h = ltb-true (a .0) (b .fl) e in (omega arith, omega arith)) (λ e. tt)
+
+-- what a stored value has, and what was there, the list has after the store
+set-has : (P : ℕ → Type 0) (l : List ℕ) (i j v : ℕ) → P v → P (getD l j 0) → P (getD (set l i v) j 0)
+set-has P [] i j v p q = q
+set-has P (x ∷ l) zero zero v p q = p
+set-has P (x ∷ l) zero (suc j) v p q = q
+set-has P (x ∷ l) (suc i) zero v p q = q
+set-has P (x ∷ l) (suc i) (suc j) v p q = set-has P l i j v p q
+
+-- a register of 18 bits other than B0, and an X register
+short-set : (r : List ℕ) (i v : ℕ) → (8 ≡ i → ⊥) → v < 2 ^ 18 → Wide r → Wide (set r i v)
+short-set r i v n h w =
+    record {
+      short = λ j l. set-has (λ (x : ℕ). x < 2 ^ 18) r i j v h (w .short j l);
+      long = λ j. set-has (λ (x : ℕ). x < 2 ^ 60) r i j v (omega arith) (w .long j);
+      b0 = getD-set-other r i 8 v 0 n ∙ w .b0;
+    }
+
+x-set : (r : List ℕ) (i v : ℕ) → v < 2 ^ 60 → Wide r → Wide (setX r i v)
+x-set r i v h w =
+    record {
+      short = λ j l. rw (getD-set-other r (16 + i) j v 0 (λ e. omega arith)) (w .short j l);
+      long = λ j. set-has (λ (x : ℕ). x < 2 ^ 60) r (16 + i) j v h (w .long j);
+      b0 = getD-set-other r (16 + i) 8 v 0 (λ e. omega arith) ∙ w .b0;
+    }
+
+b-set : (r : List ℕ) (i v : ℕ) → v < 2 ^ 18 → Wide r → Wide (setB r i v)
+unfolding setB
+b-set r i v h w =
+    of-cond Wide (eqb i 0) (λ e. w) (λ e. short-set r (8 + i) v (λ z. eqb-false i 0 e (omega arith)) h w)
+
+word-set : (f : List ℕ) (i v : ℕ) → v < 2 ^ 60 → Words f → Words (set f i v)
+word-set f i v h w = record { word = λ j. set-has (λ (x : ℕ). x < 2 ^ 60) f i j v h (w .word j) }
+
+-- other registers, another word of the field
+module _ {n : ℕ} {s : State} (k : Kept n s) where
+  registers-kept : {r : List ℕ} → Wide r → Kept n (state r (s .field))
+  registers-kept w = record { wide = w; words = k .words; size = k .size }
+
+  field-kept : (i v : ℕ) → v < 2 ^ 60 → Kept n (state (s .registers) (set (s .field) i v))
+  field-kept i v h =
+      record { wide = k .wide; words = word-set (s .field) i v h (k .words); size = length-set (s .field) i v ∙ k .size }
+
+abbrev pub KeptAfter : ℕ → After → Type 0
+KeptAfter n a = Kept n (a .state)
+
+refer-keeps : (n : ℕ) (s : State) (b : Bounds) (i : ℕ) (p : Place) (next : ℕ) → Kept n s → KeptAfter n (referred s b i p next)
+unfolding referred
+refer-keeps n s b i (Inside a) next k =
+    of-cond (KeptAfter n) (ltb i 6) (λ e. registers-kept k (x-set (s .registers) i _ (k .words .word _) (k .wide)))
+    (λ e. field-kept k _ _ (k .wide .long _))
+refer-keeps n s b i Outside next k =
+    of-cond (KeptAfter n) (stopsOutside b) (λ e. k)
+    (λ e. of-cond (KeptAfter n) (ltb i 6) (λ e. registers-kept k (x-set (s .registers) i 0 (lit< tt) (k .wide))) (λ e. k))
+
+set-a-keeps : (n : ℕ) (s : State) (b : Bounds) (i v next : ℕ) → i < 8 → v < 2 ^ 18 → Kept n s → KeptAfter n (aSet s b i v next)
+unfolding aSet
+set-a-keeps n s b i v next l h k =
+    let set-kept : Kept n (state (setA (s .registers) i v) (s .field))
+          = registers-kept k (short-set (s .registers) i v (λ e. omega arith) h (k .wide)) in
+    of-cond (KeptAfter n) (eqb i 0) (λ e. set-kept) (λ e. refer-keeps n _ b i (placeOf b (relative v)) next set-kept)
+
+stored-keeps : (n : ℕ) (s : State) (b : Bounds) (k w : ℕ) (p : Place) → w < 2 ^ 60 → Kept n s
+    → Kept n (state (s .registers) (storedAt (s .field) b k w p .field))
+stored-keeps n s b k w (Inside a) h kept = field-kept kept _ w h
+stored-keeps n s b k w Outside h kept = kept
+
+pub apply-keeps : (n : ℕ) (s : State) (b : Bounds) (e : Effect) (next : ℕ) → Sound e → Kept n s → KeptAfter n (applied s b e next)
+unfolding applied returnJumped
+apply-keeps n s b Pass next h k = k
+apply-keeps n s b (Stop _) next h k = k
+apply-keeps n s b (Jump _) next h k = k
+apply-keeps n s b (ReturnJump t w) next h k = stored-keeps n s b t w (placeOf b (relative t)) (h .1) k
+apply-keeps n s b (SetA i v) next h k = set-a-keeps n s b i v next (h .0) (h .1) k
+apply-keeps n s b (SetB i v) next h k = registers-kept k (b-set (s .registers) i v (h .1) (k .wide))
+apply-keeps n s b (SetX i v) next h k = registers-kept k (x-set (s .registers) i v (h .1) (k .wide))
+apply-keeps n s b (SetXB i v j e) next h k =
+    registers-kept k (b-set _ j e (h .1 .1) (x-set (s .registers) i v (h .0 .1) (k .wide)))
+
+by-test : (n : ℕ) (b : Bounds) (a : Absolute) (t : Bool) → ltb n (b .fl) ≡ t → cond t (Inside (record { 0 = b .ra + n })) Outside ≡ Inside a → n < b .fl
+by-test n b a true t e = ltb-true n (b .fl) t
+by-test n b a false t e = let z : _≡_ {A = ℕ} 0 1 = cc in absurd (omega arith)
+
+-- what the field test lets through is below FL
+pub inside-below : (b : Bounds) (n : ℕ) (a : Absolute) → placeOf b (relative n) ≡ Inside a → n < b .fl
+unfolding placeOf
+inside-below b n a e = by-test n b a (ltb n (b .fl)) refl e

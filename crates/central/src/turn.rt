@@ -1,0 +1,101 @@
+// A turn, and up to n turns.
+ghost use mathlib.Core.Path.{_≡_};
+ghost use Prim.Native.Nat.{_+_, _^_, _<_, _≤_};
+ghost use Rattle.central.specs.State.{state};
+ghost use Rattle.central.specs.Turn.{turned, wordRun, turnOf, ran, turnsOf};
+ghost use Rattle.central.specs.Widths.{Kept};
+use super::address::Bounds;
+use super::address::Place;
+use super::address::Relative;
+use super::address::convert;
+use super::address::index;
+use super::apply::Step;
+use super::step::step;
+use outcome::stop::CentralStop;
+
+// P after a turn, and the number of the stop, or 0.
+pub struct TurnEnd {
+    pub p: u64,
+    pub stop: u64,
+}
+
+// The same after several turns, and how many were made, the stopping one included.
+pub struct RunEnd {
+    pub p: u64,
+    pub stop: u64,
+    pub turns: u64,
+}
+
+// The parcels of the word w, which stands at p, from the first on.
+fn run_word(r: &mut [u64; 24], f: &mut [u64], b: Bounds, p: u64, w: u64) -> TurnEnd
+    requires { ⌜ Kept (b .fl) (state (now r) (now f)) ⌝ }
+    requires { ⌜ b .ra + b .fl ≤ 131072 ⌝ }
+    requires { ⌜ p < b .fl ⌝ }
+    ensures { λ o. ⌜ turned (state (now (r .exit)) (now (f .exit))) o ≡ wordRun b p w (state (now (r .entry)) (now (f .entry))) ⌝ }
+{
+    let mut place: u64 = 0;
+    while place < 4 {
+        match step(&mut *r, &mut *f, b, p, w, place) {
+            Step::Next(next) => {
+                place = next;
+            }
+            Step::Branch(target) => {
+                return TurnEnd { p: target, stop: 0 };
+            }
+            Step::Stop(s) => {
+                return TurnEnd {
+                    p,
+                    stop: s.number(),
+                };
+            }
+        }
+    }
+    TurnEnd { p: p + 1, stop: 0 }
+}
+
+// The word at p is fetched once and run, or the fetch is outside the field.
+pub fn turn(r: &mut [u64; 24], f: &mut [u64], b: Bounds, p: u64) -> TurnEnd
+    requires { ⌜ Kept (b .fl) (state (now r) (now f)) ⌝ }
+    requires { ⌜ b .ra + b .fl ≤ 131072 ⌝ }
+    ensures { λ o. ⌜ turned (state (now (r .exit)) (now (f .exit))) o ≡ turnOf b p (state (now (r .entry)) (now (f .entry))) ⌝ }
+{
+    match convert(b, Relative(p)) {
+        Place::Inside(a) => {
+            let n = index(b, a);
+            let w = f[n];
+            run_word(&mut *r, &mut *f, b, p, w)
+        }
+        Place::Outside => TurnEnd {
+            p,
+            stop: CentralStop::FetchOutside.number(),
+        },
+    }
+}
+
+// Up to n turns, the first at p; a stop ends them.
+pub fn turns(r: &mut [u64; 24], f: &mut [u64], b: Bounds, p: u64, n: u64) -> RunEnd
+    requires { ⌜ Kept (b .fl) (state (now r) (now f)) ⌝ }
+    requires { ⌜ b .ra + b .fl ≤ 131072 ⌝ }
+    requires { ⌜ p < 2 ^ 18 ⌝ }
+    ensures { λ o. ⌜ ran (state (now (r .exit)) (now (f .exit))) o ≡ turnsOf n b p (state (now (r .entry)) (now (f .entry))) ⌝ }
+{
+    let mut at = p;
+    let mut made: u64 = 0;
+    while made < n {
+        let t = turn(&mut *r, &mut *f, b, at);
+        at = t.p;
+        made = made + 1;
+        if t.stop != 0 {
+            return RunEnd {
+                p: at,
+                stop: t.stop,
+                turns: made,
+            };
+        }
+    }
+    RunEnd {
+        p: at,
+        stop: 0,
+        turns: made,
+    }
+}
