@@ -1,11 +1,12 @@
 -- What an effect does to registers and field, and what follows it. Assumes nothing.
-use Prim.Native.Nat.{ℕ, _+_, _/_, _%_, _^_}
 use mathlib.Core.Bool.{Bool, cond}
 use mathlib.Core.List.{List}
+use Prim.Native.Nat.{ℕ, _+_}
 use lib.Dec.{eqb, ltb}
 use lib.ListN.{getD, set}
-use Rattle.outcome.specs.declared.stop.CentralStop.the-variants as Because
 use Rattle.word.specs.Bits.{bit}
+use Rattle.outcome.specs.declared.stop.CentralStop.the-variants as Because
+use Rattle.central.specs.declared.apply.Step.the-variants as Then
 use Rattle.central.specs.State.{State, state}
 use Rattle.central.specs.Registers.{xOf, setA, setB, setX}
 use Rattle.central.specs.Address.{placeOf, relative, indexOf}
@@ -13,7 +14,6 @@ use Rattle.central.specs.declared.address.Bounds.{Bounds}
 use Rattle.central.specs.declared.address.Place.{Place}
 use Rattle.central.specs.declared.address.Place.the-variants.{Inside, Outside}
 use Rattle.central.specs.declared.apply.Step.{Step}
-use Rattle.central.specs.declared.apply.Step.the-variants as Then
 use Rattle.central.specs.declared.effect.Effect.{Effect}
 use Rattle.central.specs.declared.effect.Effect.the-variants.{Pass, Stop, Jump, ReturnJump, SetA, SetB, SetX, SetXB}
 

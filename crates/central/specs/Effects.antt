@@ -1,16 +1,16 @@
 -- What each code asks for, by rows of the first digit. Operands are read from the registers as they are before the instruction. Assumes nothing.
-use Prim.Native.Nat.{ℕ, _+_, _*_, _/_, _%_, _^_}
 use mathlib.Core.Bool.{Bool, cond}
 use mathlib.Core.List.{List, [], _∷_}
+use Prim.Native.Nat.{ℕ, _+_, _*_, _/_, _%_, _^_}
 use lib.Dec.{eqb}
 use lib.ListN.{getD}
-use Rattle.outcome.specs.declared.stop.CentralStop.the-variants as Because
 use Rattle.word.specs.Bits.{low}
 use Rattle.word.specs.Sums.{sum, difference, signExtend}
 use Rattle.word.specs.Logic.{logical}
 use Rattle.word.specs.Shifts.{rotateLeft, mask, shiftRightSigned, nominalLeft, nominalRight, countOnes}
 use Rattle.word.specs.Floating.{coefficientOf, exponentOf, packed}
 use Rattle.word.specs.Conditions.{wordCondition, comparison}
+use Rattle.outcome.specs.declared.stop.CentralStop.the-variants as Because
 use Rattle.central.specs.Registers.{aOf, bOf, xOf}
 use Rattle.central.specs.declared.instruction.Instruction.{Instruction}
 use Rattle.central.specs.declared.effect.Effect.{Effect}

@@ -1,6 +1,6 @@
 -- Decoding, and the length and fitness of the codes. Assumes nothing.
-use Prim.Native.Nat.{ℕ, _<_}
 use mathlib.Core.Bool.{Bool, not, _||_, _&&_, cond}
+use Prim.Native.Nat.{ℕ}
 use lib.Dec.{eqb, leb, ltb}
 use Rattle.word.specs.Fields.{parcel, digit, code, jk, constantK}
 use Rattle.central.specs.declared.instruction.Instruction.{Instruction}

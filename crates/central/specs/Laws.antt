@@ -5,3 +5,4 @@ pub mod Widths
 pub mod Step
 pub mod Turn
 pub mod Run
+pub mod Place

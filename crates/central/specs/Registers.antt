@@ -1,7 +1,7 @@
 -- The 24 registers as one list: A0 to A7, B0 to B7, X0 to X7. Assumes nothing.
-use Prim.Native.Nat.{ℕ, _+_}
 use mathlib.Core.Bool.{cond}
 use mathlib.Core.List.{List}
+use Prim.Native.Nat.{ℕ, _+_}
 use lib.Dec.{eqb}
 use lib.ListN.{getD, set}
 

@@ -1,6 +1,6 @@
 -- What the instructions of a program act on. Assumes nothing.
-use Prim.Native.Nat.{ℕ}
 use mathlib.Core.List.{List}
+use Prim.Native.Nat.{ℕ}
 
 -- the 24 registers, and the words of the field from its first on
 pub record State : Type 0 where

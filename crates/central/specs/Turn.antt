@@ -1,11 +1,12 @@
 -- An instruction, a turn, and a run of turns. "Turn" is document 01's word for the run of one instruction word. Assumes nothing.
-use Prim.Native.Nat.{ℕ, zero, suc, _+_}
 use mathlib.Core.Bool.{cond}
-use lib.Dec.{eqb, leb, ltb}
+use Prim.Native.Nat.{ℕ, zero, suc, _+_}
+use lib.Dec.{eqb, ltb}
 use lib.ListN.{getD}
+use Rattle.outcome.specs.declared.stop.CentralStop.the-variants as Because
 use Rattle.outcome.specs.Numbers.{centralStopNumber}
 use Rattle.outcome.specs.declared.stop.CentralStop.{CentralStop}
-use Rattle.outcome.specs.declared.stop.CentralStop.the-variants as Because
+use Rattle.central.specs.declared.apply.Step.the-variants as Then
 use Rattle.central.specs.State.{State}
 use Rattle.central.specs.Instruction.{decoded, isFit, parcelsOf}
 use Rattle.central.specs.Effects.{effectOf}
@@ -15,7 +16,6 @@ use Rattle.central.specs.declared.address.Bounds.{Bounds}
 use Rattle.central.specs.declared.address.Place.{Place}
 use Rattle.central.specs.declared.address.Place.the-variants.{Inside, Outside}
 use Rattle.central.specs.declared.apply.Step.{Step}
-use Rattle.central.specs.declared.apply.Step.the-variants as Then
 use Rattle.central.specs.declared.instruction.Instruction.{Instruction}
 use Rattle.central.specs.declared.turn.TurnEnd.{TurnEnd}
 use Rattle.central.specs.declared.turn.RunEnd.{RunEnd}

@@ -1,7 +1,7 @@
 -- The widths that the functions ask for. That instructions keep them is proved in `Laws.Widths`. Assumes nothing.
-use Prim.Native.Nat.{ℕ, _+_, _^_, _≤_, _<_}
 use mathlib.Core.List.{List}
 use mathlib.Core.Path.{_≡_}
+use Prim.Native.Nat.{ℕ, _+_, _^_, _≤_, _<_}
 use lib.ListN.{getD, length}
 use Rattle.central.specs.State.{State}
 use Rattle.central.specs.declared.address.Bounds.{Bounds}

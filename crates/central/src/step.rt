@@ -24,10 +24,11 @@ pub fn step(r: &mut [u64; 24], f: &mut [u64], b: Bounds, p: u64, w: u64, place: 
 {
     let q = decode(w, place);
     let code = q.code;
-    if !is_fit(code, q.i) {
+    let fit = is_fit(code, q.i);
+    let next = place + parcels(code);
+    if !fit {
         return Step::Stop(CentralStop::UnfitCode);
     }
-    let next = place + parcels(code);
     if 4 < next {
         return Step::Stop(CentralStop::LastParcel);
     }

@@ -1,14 +1,12 @@
 -- Instructions have parts of their widths, and their effects name registers that are there and values of their widths. Assumes nothing.
 use mathlib.Core.Bool.{Bool, true, false}
-use mathlib.Core.List.{List, [], _∷_}
-use Prim.Native.Nat.{ℕ, _+_, _*_, _/_, _%_, _^_, _≤_, _<_}
+use mathlib.Core.List.{List}
+use Prim.Native.Nat.{ℕ, _+_, _/_, _%_, _^_, _≤_, _<_}
 use native.Mathlib.Omega.{arith}
 use lib.Dec.{eqb, ltb, lit<, lit≤}
 use Rattle.word.specs.Bits.{low}
-use Rattle.word.specs.Sums.{sum, difference, signExtend}
-use Rattle.word.specs.Shifts.{mask, countOnes}
 use Rattle.word.specs.Conditions.{wordCondition, comparison}
-use Rattle.word.specs.Fields.{parcel, constantK}
+use Rattle.word.specs.Fields.{parcel}
 use Rattle.word.specs.Laws.Bits.{bits-lt}
 use Rattle.word.specs.Laws.Choice.{of-cond, of-getD}
 use Rattle.word.specs.Laws.Floating.{coefficient-lt, exponent-lt, packed-lt}
@@ -18,7 +16,7 @@ use Rattle.word.specs.Laws.Shifts.{mask-lt, signed-lt, nominal-left-lt, nominal
 use Rattle.word.specs.Laws.Sums.{sum-lt, difference-lt, extend-lt}
 use Rattle.central.specs.Registers.{aOf, bOf, xOf}
 use Rattle.central.specs.Instruction.{constantAt, decoded}
-use Rattle.central.specs.Effects.{jumpIf, returnWord, firstBranches, branchOf, unpackTo, shifts, leftOut, shiftOf, sumOf, maskOrCountOf, operands, operandOf, rows, effectOf}
+use Rattle.central.specs.Effects.{jumpIf, firstBranches, branchOf, unpackTo, shifts, leftOut, shiftOf, sumOf, maskOrCountOf, operands, operandOf, rows, effectOf}
 use Rattle.central.specs.Widths.{Wide, Fit, Sound}
 use Rattle.central.specs.declared.instruction.Instruction.{Instruction}
 
@@ -55,12 +53,19 @@ module _ (r : List ℕ) (q : Instruction) (w : Wide r) (f : Fit q) where
       let bj = b-lt (q .j) (f .j) in
       let bk = b-lt (q .k) (f .k) in
       let xj : low 18 (xOf r (q .j)) < 2 ^ 18 = omega arith in
-      of-getD (λ (v : ℕ). v < 2 ^ 18) (operands r q) m 0
-      (sum-lt 18 _ _ aj (f .constant)
-      , (sum-lt 18 _ _ bj (f .constant)
-      , (sum-lt 18 _ _ xj (f .constant)
-      , (sum-lt 18 _ _ xj bk
-      , (sum-lt 18 _ _ aj bk , (difference-lt 18 _ _ aj , (sum-lt 18 _ _ bj bk , (difference-lt 18 _ _ bj , tt))))))))
+      of-getD (λ (v : ℕ). v < 2 ^ 18) (operands r q) m 0 (
+        sum-lt 18 _ _ aj (f .constant),
+        (
+          sum-lt 18 _ _ bj (f .constant),
+          (
+            sum-lt 18 _ _ xj (f .constant),
+            (
+              sum-lt 18 _ _ xj bk,
+              (sum-lt 18 _ _ aj bk, (difference-lt 18 _ _ aj, (sum-lt 18 _ _ bj bk, (difference-lt 18 _ _ bj, tt)))),
+            ),
+          ),
+        ),
+      )
       (lit< tt)
 
   jump-sound : (t : Bool) → Sound (jumpIf t (q .constant))
@@ -70,10 +75,13 @@ module _ (r : List ℕ) (q : Instruction) (w : Wide r) (f : Fit q) where
   branch-sound : (m p : ℕ) → p < 131072 → Sound (branchOf r q m p)
   unfolding branchOf
   branch-sound m p h =
-      of-getD Sound (firstBranches r q p) m _
-      (tt
-      , ((f .constant, omega arith)
-      , (sum-lt 18 _ _ (b-lt (q .i) (f .i)) (f .constant) , (jump-sound (wordCondition (q .i) (xOf r (q .j))) , tt))))
+      of-getD Sound (firstBranches r q p) m _ (
+        tt,
+        (
+          (f .constant, omega arith),
+          (sum-lt 18 _ _ (b-lt (q .i) (f .i)) (f .constant), (jump-sound (wordCondition (q .i) (xOf r (q .j))), tt)),
+        ),
+      )
       (jump-sound (comparison m (bOf r (q .i)) (bOf r (q .j))))
 
   unpack-sound : (i j x : ℕ) → i < 8 → j < 8 → x < 2 ^ 60 → Sound (unpackTo i j x)
@@ -85,11 +93,16 @@ module _ (r : List ℕ) (q : Instruction) (w : Wide r) (f : Fit q) where
   shift-sound m =
       let xi = x-lt (q .i) in
       let xk = x-lt (q .k) in
-      of-getD Sound (shifts r q) m leftOut
-      ((f .i, rotate-lt 60 _ _ (lit< tt) xi)
-      , ((f .i, signed-lt 60 _ _ xi)
-      , ((f .i, nominal-left-lt _ _ xk)
-      , ((f .i, nominal-right-lt _ _ xk) , (tt , (tt , (unpack-sound _ _ _ (f .i) (f .j) xk , ((f .i, packed-lt _ _) , tt))))))))
+      of-getD Sound (shifts r q) m leftOut (
+        (f .i, rotate-lt 60 _ _ (lit< tt) xi),
+        (
+          (f .i, signed-lt 60 _ _ xi),
+          (
+            (f .i, nominal-left-lt _ _ xk),
+            ((f .i, nominal-right-lt _ _ xk), (tt, (tt, (unpack-sound _ _ _ (f .i) (f .j) xk, ((f .i, packed-lt _ _), tt))))),
+          ),
+        ),
+      )
       tt
 
   sum-sound : (m : ℕ) → Sound (sumOf r q m)
@@ -109,12 +122,23 @@ module _ (r : List ℕ) (q : Instruction) (w : Wide r) (f : Fit q) where
   unfolding effectOf
   effect-sound p h =
       let m = q .code % 8 in
-      of-getD Sound (rows r q m p) (q .code / 8) leftOut
-      (branch-sound m p h
-      , ((f .i, logical-lt m _ _ (x-lt (q .j)) (x-lt (q .k)))
-      , (shift-sound m
-      , (sum-sound m
-      , (mask-or-count-sound m
-      , ((f .i, operand-lt m)
-      , ((f .i, operand-lt m) , ((f .i, extend-lt 18 60 _ (lit≤ tt) (operand-lt m)) , tt))))))))
+      of-getD Sound (rows r q m p) (q .code / 8) leftOut (
+        branch-sound m p h,
+        (
+          (f .i, logical-lt m _ _ (x-lt (q .j)) (x-lt (q .k))),
+          (
+            shift-sound m,
+            (
+              sum-sound m,
+              (
+                mask-or-count-sound m,
+                (
+                  (f .i, operand-lt m),
+                  ((f .i, operand-lt m), ((f .i, extend-lt 18 60 _ (lit≤ tt) (operand-lt m)), tt)),
+                ),
+              ),
+            ),
+          ),
+        ),
+      )
       tt

@@ -2,12 +2,13 @@
 use mathlib.Core.Bool.{Bool, true, false, cond}
 use mathlib.Core.Path.{_≡_, refl, sym, ap, subst, _∙_}
 use Prim.Native.Nat.{ℕ, zero, suc, _+_, _^_, _≤_, _<_}
+use native.Mathlib.Nat.{zero-add}
 use native.Mathlib.Omega.{arith}
 use borrow.Author.Tests.{eq-eqb, ne-eqb, eqb-true, eqb-false}
 use lib.Dec.{eqb, lit≤}
 use Rattle.word.specs.Laws.Choice.{of-cond}
 use Rattle.central.specs.State.{State}
-use Rattle.central.specs.Turn.{Turn, turnOf, Run, ran, runEnd, turnsBefore, afterTurn, turnsOf}
+use Rattle.central.specs.Turn.{Turn, turnOf, Run, ran, runEnd, turnsBefore, turnsOf}
 use Rattle.central.specs.Widths.{Kept}
 use Rattle.central.specs.Laws.Turn.{Left, turn-left}
 use Rattle.central.specs.declared.address.Bounds.{Bounds}
@@ -102,3 +103,43 @@ turns-most zero b p s = lit≤ tt
 turns-most (suc n) b p s =
     of-cond (λ (o : Run). o .end .turns ≤ suc n) (eqb (turnOf b p s .end .stop) 0)
     (λ e. omega (arith, turns-most n b (turnOf b p s .end .p) (turnOf b p s .state))) (λ e. omega arith)
+
+-- a run that does not stop makes all the turns asked
+pub turns-all : (n : ℕ) (b : Bounds) (p : ℕ) (s : State) → turnsOf n b p s .end .stop ≡ 0 → turnsOf n b p s .end .turns ≡ n
+unfolding turnsOf
+turns-all zero b p s = λ e. refl
+turns-all (suc n) b p s =
+    let t = turnOf b p s in
+    of-cond (λ (o : Run). o .end .stop ≡ 0 → o .end .turns ≡ suc n) (eqb (t .end .stop) 0)
+    (λ e h. omega (arith, turns-all n b (t .end .p) (t .state) h)) (λ e h. absurd (eqb-false (t .end .stop) 0 e h))
+
+-- a stop comes with the turn that met it
+pub stop-takes-turn : (n : ℕ) (b : Bounds) (p : ℕ) (s : State) → (turnsOf n b p s .end .stop ≡ 0 → ⊥) → 1 ≤ turnsOf n b p s .end .turns
+unfolding turnsOf
+stop-takes-turn zero b p s = λ h. absurd (h refl)
+stop-takes-turn (suc n) b p s =
+    of-cond (λ (o : Run). (o .end .stop ≡ 0 → ⊥) → 1 ≤ o .end .turns) (eqb (turnOf b p s .end .stop) 0)
+    (λ e h. omega arith) (λ e h. omega arith)
+
+-- a run that goes on from where o ended
+abbrev pub thenTurns : ℕ → Bounds → Run → Run
+thenTurns k b o = turnsBefore (o .end .turns) (turnsOf k b (o .end .p) (o .state))
+
+more-turns : (b : Bounds) (p n k : ℕ) (s : State) (t : Turn) → t ≡ turnOf b p s
+    → (turnsOf n b (t .end .p) (t .state) .end .stop ≡ 0 → turnsOf (n + k) b (t .end .p) (t .state) ≡ thenTurns k b (turnsOf n b (t .end .p) (t .state)))
+    → (z : Bool) → eqb (t .end .stop) 0 ≡ z
+    → cond z (turnsBefore 1 (turnsOf n b (t .end .p) (t .state))) (ran (t .state) (runEnd (t .end .p) (t .end .stop) 1)) .end .stop ≡ 0
+    → turnsOf (suc (n + k)) b p s
+    ≡ thenTurns k b (cond z (turnsBefore 1 (turnsOf n b (t .end .p) (t .state))) (ran (t .state) (runEnd (t .end .p) (t .end .stop) 1)))
+more-turns b p n k s t e rest true z h =
+    sym (first-goes-on b p (n + k) s t e (eqb-true (t .end .stop) 0 z)) ∙ ap (turnsBefore 1) (rest h) ∙ before-before 1 _ _
+more-turns b p n k s t e rest false z h = absurd (eqb-false (t .end .stop) 0 z h)
+
+-- n turns without a stop and then k are n + k turns
+pub turns-then-turns : (n k : ℕ) (b : Bounds) (p : ℕ) (s : State) → turnsOf n b p s .end .stop ≡ 0 → turnsOf (n + k) b p s ≡ thenTurns k b (turnsOf n b p s)
+unfolding turnsOf
+turns-then-turns zero k b p s h = rw (zero-add k) (sym (no-turns-before (turnsOf k b p s)))
+turns-then-turns (suc n) k b p s h =
+    let t = turnOf b p s in
+    let e : suc n + k ≡ suc (n + k) = omega arith in
+    rw e (more-turns b p n k s t refl (turns-then-turns n k b (t .end .p) (t .state)) (eqb (t .end .stop) 0) refl h)

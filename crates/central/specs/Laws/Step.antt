@@ -1,30 +1,27 @@
 -- One instruction: by the results of its parts, what it keeps, and where it goes on. Assumes nothing.
-use mathlib.Core.Bool.{Bool, true, false, not, cond}
+use mathlib.Core.Bool.{Bool, true, false, not}
 use mathlib.Core.List.{List}
-use mathlib.Core.Path.{_≡_, refl, sym, ap, subst, _∙_}
-use Prim.Native.Nat.{ℕ, zero, suc, _+_, _-_, _^_, _≤_, _<_}
+use mathlib.Core.Path.{_≡_, refl, sym, subst}
+use Prim.Native.Nat.{ℕ, _+_, _-_, _^_, _≤_, _<_}
 use native.Mathlib.Omega.{arith}
-use borrow.Author.Tests.{lt-ltb, le-ltb, ltb-true, ltb-false, eq-eqb, ne-eqb}
-use lib.Dec.{eqb, ltb, lit<}
-use lib.ListN.{getD}
-use Rattle.outcome.specs.Numbers.{centralStopNumber}
-use Rattle.outcome.specs.declared.stop.CentralStop.{CentralStop}
-use Rattle.outcome.specs.declared.stop.CentralStop.the-variants as Because
+use borrow.Author.Tests.{lt-ltb, le-ltb, ltb-true}
+use lib.Dec.{eqb, ltb}
 use Rattle.word.specs.Laws.Choice.{of-cond}
+use Rattle.outcome.specs.declared.stop.CentralStop.the-variants as Because
+use Rattle.central.specs.declared.apply.Step.the-variants as Then
 use Rattle.central.specs.State.{State}
 use Rattle.central.specs.Instruction.{decoded, isLong, isFit, parcelsOf}
 use Rattle.central.specs.Effects.{effectOf}
-use Rattle.central.specs.Address.{placeOf, relative, indexOf}
-use Rattle.central.specs.Apply.{After, after, stopsOutside, referred, aSet, storedAt, returnJumped, applied}
-use Rattle.central.specs.Turn.{stoppedBy, ranAt, stepOf, Turn, turned, turnEnd, goOn, parcelsRun, wordRun, fetched, turnOf, Run, ran, runEnd, turnsBefore, afterTurn, turnsOf}
-use Rattle.central.specs.Widths.{Wide, Kept, Sound}
+use Rattle.central.specs.Address.{placeOf, relative}
+use Rattle.central.specs.Apply.{After, stopsOutside, referred, aSet, storedAt, returnJumped, applied}
+use Rattle.central.specs.Turn.{stoppedBy, ranAt, stepOf}
+use Rattle.central.specs.Widths.{Kept, Sound}
 use Rattle.central.specs.Laws.Effects.{decoded-fits, effect-sound}
 use Rattle.central.specs.Laws.Widths.{KeptAfter, apply-keeps}
 use Rattle.central.specs.declared.address.Bounds.{Bounds}
 use Rattle.central.specs.declared.address.Place.{Place}
 use Rattle.central.specs.declared.address.Place.the-variants.{Inside, Outside}
 use Rattle.central.specs.declared.apply.Step.{Step}
-use Rattle.central.specs.declared.apply.Step.the-variants as Then
 use Rattle.central.specs.declared.effect.Effect.{Effect}
 use Rattle.central.specs.declared.effect.Effect.the-variants.{Pass, Stop, Jump, ReturnJump, SetA, SetB, SetX, SetXB}
 use Rattle.central.specs.declared.instruction.Instruction.{Instruction}
@@ -125,7 +122,7 @@ step-reaches n s b p w place h l k =
     of-cond P (isFit (q .code) (q .i))
     (λ e. of-cond P (ltb 4 (place + parcelsOf (q .code))) (λ e. tt)
     (λ e.
-      further place (place + parcelsOf (q .code)) (applied s b (effectOf (s .registers) q p) (place + parcelsOf (q .code)) .step)
-      (omega (arith, parcels-few (q .code) _ refl))
-      (apply-reaches s b (effectOf (s .registers) q p) _ (effect-sound (s .registers) q (k .wide) (decoded-fits w place) p h) l)))
+    further place (place + parcelsOf (q .code)) (applied s b (effectOf (s .registers) q p) (place + parcelsOf (q .code)) .step)
+    (omega (arith, parcels-few (q .code) _ refl))
+    (apply-reaches s b (effectOf (s .registers) q p) _ (effect-sound (s .registers) q (k .wide) (decoded-fits w place) p h) l)))
     (λ e. tt)

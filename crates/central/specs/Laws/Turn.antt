@@ -1,27 +1,24 @@
 -- A turn as a loop over the parcels, and what it keeps. Assumes nothing.
-use mathlib.Core.Bool.{Bool, true, false, cond}
 use mathlib.Core.Path.{_≡_, refl, sym, ap, subst, _∙_}
 use Prim.Native.Nat.{ℕ, zero, suc, _+_, _^_, _≤_, _<_}
 use native.Mathlib.Omega.{arith}
 use borrow.Author.Tests.{lt-ltb, le-ltb, ltb-true}
-use lib.Dec.{ltb, lit<, lit≤}
-use lib.ListN.{getD}
+use lib.Dec.{ltb, lit≤}
+use Rattle.word.specs.Laws.Choice.{of-cond}
+use Rattle.outcome.specs.declared.stop.CentralStop.the-variants as Because
 use Rattle.outcome.specs.Numbers.{centralStopNumber}
 use Rattle.outcome.specs.declared.stop.CentralStop.{CentralStop}
-use Rattle.outcome.specs.declared.stop.CentralStop.the-variants as Because
-use Rattle.word.specs.Laws.Choice.{of-cond}
+use Rattle.central.specs.declared.apply.Step.the-variants as Then
 use Rattle.central.specs.State.{State}
-use Rattle.central.specs.Address.{placeOf, relative, indexOf, Within}
+use Rattle.central.specs.Address.{placeOf}
 use Rattle.central.specs.Apply.{After}
 use Rattle.central.specs.Turn.{stepOf, Turn, turned, turnEnd, goOn, parcelsRun, wordRun, fetched, turnOf}
 use Rattle.central.specs.Widths.{Kept}
-use Rattle.central.specs.Laws.Widths.{KeptAfter, place-within}
+use Rattle.central.specs.Laws.Widths.{KeptAfter}
 use Rattle.central.specs.Laws.Step.{Later, step-keeps, step-reaches}
 use Rattle.central.specs.declared.address.Bounds.{Bounds}
 use Rattle.central.specs.declared.address.Place.{Place}
-use Rattle.central.specs.declared.address.Place.the-variants.{Inside, Outside}
 use Rattle.central.specs.declared.apply.Step.{Step}
-use Rattle.central.specs.declared.apply.Step.the-variants as Then
 
 -- the state of the loop: what is left to run gives what the whole word gives
 pub record Going (b : Bounds) (p w : ℕ) (s₀ s : State) (place : ℕ) : Type 0 where
@@ -53,10 +50,13 @@ module _ (b : Bounds) (p w : ℕ) (room : b .fl ≤ 131072) (inside : p < b .fl)
     stepped : (most : ℕ) → 4 ≤ place + most → parcelsRun most b p w s place ≡ wordRun b p w s₀
         → (fewer : ℕ) × ((most ≡ suc fewer) × (goOn p (parcelsRun fewer b p w) (a .state) (a .step) ≡ wordRun b p w s₀))
     stepped zero l i = absurd (omega arith)
-    stepped (suc fewer) l i =
-        (fewer
-        , (refl
-        , (ap (λ (x : After). goOn p (parcelsRun fewer b p w) (x .state) (x .step)) e ∙ sym (run-step b p w s fewer place h) ∙ i)))
+    stepped (suc fewer) l i = (
+      fewer,
+      (
+        refl,
+        (ap (λ (x : After). goOn p (parcelsRun fewer b p w) (x .state) (x .step)) e ∙ sym (run-step b p w s fewer place h) ∙ i),
+      ),
+    )
 
     later : Later place (a .step)
     later =
@@ -67,14 +67,15 @@ module _ (b : Bounds) (p w : ℕ) (room : b .fl ≤ 131072) (inside : p < b .fl)
     going-on next i =
         let o = stepped (g .most) (g .enough) (g .is) in
         let l : place < next = subst (Later place) i later in
-        let m : g .most ≡ suc (o .0) = o .1 .0 in
-        (l
-        , record {
-          kept = subst (KeptAfter (b .fl)) (sym e) (step-keeps (b .fl) s b p w place (omega arith) (g .kept));
-          most = o .0;
-          enough = omega (arith, g .enough);
-          is = sym (ap (goOn p (parcelsRun (o .0) b p w) (a .state)) i) ∙ o .1 .1;
-        })
+        let m : g .most ≡ suc (o .0) = o .1 .0 in (
+          l,
+          record {
+            kept = subst (KeptAfter (b .fl)) (sym e) (step-keeps (b .fl) s b p w place (omega arith) (g .kept));
+            most = o .0;
+            enough = omega (arith, g .enough);
+            is = sym (ap (goOn p (parcelsRun (o .0) b p w) (a .state)) i) ∙ o .1 .1;
+          },
+        )
 
     pub going-branch : (target : ℕ) → a .step ≡ Then.Branch target → turned (a .state) (turnEnd target 0) ≡ wordRun b p w s₀
     going-branch target i =
@@ -112,9 +113,9 @@ module _ (n : ℕ) (b : Bounds) (room : b .fl ≤ 131072) where
   parcels-left p w h (suc most) s place k =
       of-cond (Left n) (ltb place 4)
       (λ e.
-        go-on-left p place (omega arith) (parcelsRun most b p w) (parcels-left p w h most) _ (stepOf s b p w place .step)
-        (step-keeps n s b p w place (omega arith) k)
-        (step-reaches n s b p w place (omega arith) room k))
+      go-on-left p place (omega arith) (parcelsRun most b p w) (parcels-left p w h most) _ (stepOf s b p w place .step)
+      (step-keeps n s b p w place (omega arith) k)
+      (step-reaches n s b p w place (omega arith) room k))
       (λ e. record { kept = k; p = omega arith; stop = lit≤ tt })
 
   pub turn-left : (p : ℕ) (s : State) → p < 2 ^ 18 → Kept n s → Left n (turnOf b p s)

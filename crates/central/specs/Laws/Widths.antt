@@ -2,17 +2,17 @@
 use mathlib.Core.Bool.{Bool, true, false, cond}
 use mathlib.Core.List.{List, [], _∷_}
 use mathlib.Core.Path.{_≡_, refl, _∙_}
-use Prim.Native.Nat.{ℕ, zero, suc, _+_, _^_, _≤_, _<_}
+use Prim.Native.Nat.{ℕ, zero, suc, _+_, _^_, _<_}
 use native.Mathlib.Omega.{arith}
-use borrow.Author.Tests.{eqb-true, eqb-false, ltb-true}
+use borrow.Author.Tests.{eqb-false, ltb-true}
 use lib.Dec.{eqb, ltb, lit<}
-use lib.ListN.{getD, set, length, length-set}
+use lib.ListN.{getD, set, length-set}
 use lib.Seq.{getD-set-other}
 use Rattle.word.specs.Laws.Choice.{of-cond}
 use Rattle.central.specs.State.{State, state}
 use Rattle.central.specs.Registers.{setA, setB, setX}
 use Rattle.central.specs.Address.{placeOf, relative, Within}
-use Rattle.central.specs.Apply.{After, after, stopsOutside, referred, aSet, Stored, storedAt, returnJumped, applied}
+use Rattle.central.specs.Apply.{After, stopsOutside, referred, aSet, storedAt, returnJumped, applied}
 use Rattle.central.specs.Widths.{Wide, Words, Kept, Sound}
 use Rattle.central.specs.declared.address.Bounds.{Bounds}
 use Rattle.central.specs.declared.address.Relative.{Relative}
@@ -85,7 +85,7 @@ set-a-keeps : (n : ℕ) (s : State) (b : Bounds) (i v next : ℕ) → i < 8 → 
 unfolding aSet
 set-a-keeps n s b i v next l h k =
     let set-kept : Kept n (state (setA (s .registers) i v) (s .field))
-          = registers-kept k (short-set (s .registers) i v (λ e. omega arith) h (k .wide)) in
+    = registers-kept k (short-set (s .registers) i v (λ e. omega arith) h (k .wide)) in
     of-cond (KeptAfter n) (eqb i 0) (λ e. set-kept) (λ e. refer-keeps n _ b i (placeOf b (relative v)) next set-kept)
 
 stored-keeps : (n : ℕ) (s : State) (b : Bounds) (k w : ℕ) (p : Place) → w < 2 ^ 60 → Kept n s

@@ -1,10 +1,9 @@
+-- `central::address::convert` meets its contract. Assumes nothing.
 use borrow.Author.Tests.{lt-ltb, le-ltb}
-use Rattle.central.specs.Address.{placeOf}
 use borrow.Author.Needs.{needs}
-use Rattle.central.proofs.address.convert.Statement.{statement}
 use Rattle.central.proofs.address.convert.Tie as tie
-use Rattle.central.proofs.address.convert.Reads as reads
-use Rattle.central.proofs.address.convert.Lts as lts
+use Rattle.central.specs.Address.{placeOf}
+use Rattle.central.proofs.address.convert.Statement.{statement}
 
 add-t6 : tie.Need-add-t6
 add-t6 c = search needs

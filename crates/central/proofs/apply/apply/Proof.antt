@@ -1,15 +1,10 @@
+-- `central::apply::apply` meets its contract. Assumes nothing.
 use mathlib.Core.Path.{subst}
+use borrow.Author.Needs.{needs}
+use Rattle.central.proofs.apply.apply.Tie as tie
 use Rattle.central.specs.Apply.{applied}
 use Rattle.central.specs.Widths.{Sound}
-use borrow.Author.Needs.{needs}
 use Rattle.central.proofs.apply.apply.Statement.{statement}
-use Rattle.central.proofs.apply.apply.Tie as tie
-use Rattle.central.proofs.apply.apply.Reads as reads
-use Rattle.central.proofs.apply.apply.Lts as lts
-use Rattle.central.proofs.apply.return_jump.Reads as return-jump-reads
-use Rattle.central.proofs.apply.set_a.Reads as set-a-reads
-use Rattle.central.proofs.registers.set_b.Reads as set-b-reads
-use Rattle.central.proofs.registers.set_x.Reads as set-x-reads
 
 enum-told : tie.Need-enum-told
 enum-told c = search needs

@@ -1,16 +1,13 @@
+-- `central::apply::refer` meets its contract. Assumes nothing.
 use mathlib.Core.Path.{subst}
 use borrow.Author.Tests.{lt-ltb, le-ltb, eq-eqb, ne-eqb}
+use borrow.Author.Needs.{needs}
 use lib.Bits.{and-mask}
+use Rattle.central.proofs.apply.refer.Tie as tie
 use Rattle.central.specs.Address.{Within}
 use Rattle.central.specs.Apply.{referred}
 use Rattle.central.specs.declared.address.Place.{Place}
-use borrow.Author.Needs.{needs}
 use Rattle.central.proofs.apply.refer.Statement.{statement}
-use Rattle.central.proofs.apply.refer.Tie as tie
-use Rattle.central.proofs.apply.refer.Reads as reads
-use Rattle.central.proofs.apply.refer.Lts as lts
-use Rattle.central.proofs.address.index.Reads as index-reads
-use Rattle.central.proofs.registers.set_x.Reads as set-x-reads
 
 enum-known-p : tie.Need-enum-known-p
 enum-known-p c = search needs

@@ -1,16 +1,12 @@
-use mathlib.Core.Path.{subst}
+-- `central::apply::return_jump` meets its contract. Assumes nothing.
+use mathlib.Core.Path.{subst, sym, _∙_}
+use borrow.Author.Needs.{needs}
+use Rattle.central.proofs.apply.return_jump.Tie as tie
 use Rattle.central.specs.Apply.{returnJumped}
 use Rattle.central.specs.Laws.Widths.{place-within}
-use mathlib.Core.Path.{sym, _∙_}
 use Rattle.central.specs.Address.{Within}
 use Rattle.central.specs.declared.address.Place.{Place}
-use borrow.Author.Needs.{needs}
 use Rattle.central.proofs.apply.return_jump.Statement.{statement}
-use Rattle.central.proofs.apply.return_jump.Tie as tie
-use Rattle.central.proofs.apply.return_jump.Reads as reads
-use Rattle.central.proofs.apply.return_jump.Lts as lts
-use Rattle.central.proofs.address.convert.Reads as convert-reads
-use Rattle.central.proofs.address.index.Reads as index-reads
 
 convert-requires : tie.Need-convert-requires
 convert-requires c κs = search needs

@@ -1,14 +1,11 @@
+-- `central::apply::set_a` meets its contract. Assumes nothing.
 use native.Mathlib.Omega.{arith}
 use borrow.Author.Tests.{eq-eqb, ne-eqb}
+use borrow.Author.Needs.{needs}
+use Rattle.central.proofs.apply.set_a.Tie as tie
 use Rattle.central.specs.Apply.{aSet}
 use Rattle.central.specs.Laws.Widths.{place-within}
-use borrow.Author.Needs.{needs}
 use Rattle.central.proofs.apply.set_a.Statement.{statement}
-use Rattle.central.proofs.apply.set_a.Tie as tie
-use Rattle.central.proofs.apply.set_a.Reads as reads
-use Rattle.central.proofs.apply.set_a.Lts as lts
-use Rattle.central.proofs.address.convert.Reads as convert-reads
-use Rattle.central.proofs.apply.refer.Reads as refer-reads
 
 mul-r : tie.Need-mul-r
 mul-r c = search needs

@@ -1,13 +1,9 @@
+-- `central::arithmetic::mask_or_count_of` meets its contract. Assumes nothing.
 use borrow.Author.Tests.{ne-eqb}
-use Rattle.central.specs.Effects.{maskOrCountOf}
 use borrow.Author.Needs.{needs}
-use Rattle.central.proofs.arithmetic.mask_or_count_of.Statement.{statement}
 use Rattle.central.proofs.arithmetic.mask_or_count_of.Tie as tie
-use Rattle.central.proofs.arithmetic.mask_or_count_of.Reads as reads
-use Rattle.central.proofs.arithmetic.mask_or_count_of.Lts as lts
-use Rattle.central.proofs.registers.x_of.Reads as x-of-reads
-use Rattle.word.proofs.shifts.count_ones60.Reads as count-ones60-reads
-use Rattle.word.proofs.shifts.mask60.Reads as mask60-reads
+use Rattle.central.specs.Effects.{maskOrCountOf}
+use Rattle.central.proofs.arithmetic.mask_or_count_of.Statement.{statement}
 
 mask60-requires : tie.Need-mask60-requires
 mask60-requires c κs = search needs

@@ -1,13 +1,9 @@
+-- `central::arithmetic::sum_of` meets its contract. Assumes nothing.
 use borrow.Author.Tests.{ne-eqb}
-use Rattle.central.specs.Effects.{sumOf}
 use borrow.Author.Needs.{needs}
-use Rattle.central.proofs.arithmetic.sum_of.Statement.{statement}
 use Rattle.central.proofs.arithmetic.sum_of.Tie as tie
-use Rattle.central.proofs.arithmetic.sum_of.Reads as reads
-use Rattle.central.proofs.arithmetic.sum_of.Lts as lts
-use Rattle.central.proofs.registers.x_of.Reads as x-of-reads
-use Rattle.word.proofs.sums.difference60.Reads as difference60-reads
-use Rattle.word.proofs.sums.sum60.Reads as sum60-reads
+use Rattle.central.specs.Effects.{sumOf}
+use Rattle.central.proofs.arithmetic.sum_of.Statement.{statement}
 
 x-of-requires : tie.Need-x-of-requires
 x-of-requires c κs = search needs

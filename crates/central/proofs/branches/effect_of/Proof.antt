@@ -1,18 +1,10 @@
-use Rattle.word.proofs.Match.{none-le}
-use lib.ListN.{List·getD-eq-default}
-use Rattle.central.specs.Effects.{firstBranches, branchOf}
+-- `central::branches::effect_of` meets its contract. Assumes nothing.
 use borrow.Author.Needs.{needs}
-use Rattle.central.proofs.branches.effect_of.Statement.{statement}
+use lib.ListN.{List·getD-eq-default}
+use Rattle.word.proofs.Match.{none-le}
 use Rattle.central.proofs.branches.effect_of.Tie as tie
-use Rattle.central.proofs.branches.effect_of.Reads as reads
-use Rattle.central.proofs.branches.effect_of.Lts as lts
-use Rattle.central.proofs.branches.return_word.Reads as return-word-reads
-use Rattle.central.proofs.effect.jump_if.Reads as jump-if-reads
-use Rattle.central.proofs.registers.b_of.Reads as b-of-reads
-use Rattle.central.proofs.registers.x_of.Reads as x-of-reads
-use Rattle.word.proofs.conditions.comparison.Reads as comparison-reads
-use Rattle.word.proofs.conditions.word_condition.Reads as word-condition-reads
-use Rattle.word.proofs.sums.sum18.Reads as sum18-reads
+use Rattle.central.specs.Effects.{firstBranches, branchOf}
+use Rattle.central.proofs.branches.effect_of.Statement.{statement}
 
 return-word-requires : tie.Need-return-word-requires
 return-word-requires c κs = search needs

@@ -1,20 +1,11 @@
+-- `central::effect::effect_of` meets its contract. Assumes nothing.
 use native.Mathlib.Omega.{arith}
+use borrow.Author.Needs.{needs}
 use Rattle.word.proofs.Match.{last-arm}
+use Rattle.central.proofs.effect.effect_of.Tie as tie
 use Rattle.central.specs.Effects.{effectOf}
 use Rattle.central.specs.Laws.Effects.{operand-lt}
-use borrow.Author.Needs.{needs}
 use Rattle.central.proofs.effect.effect_of.Statement.{statement}
-use Rattle.central.proofs.effect.effect_of.Tie as tie
-use Rattle.central.proofs.effect.effect_of.Reads as reads
-use Rattle.central.proofs.effect.effect_of.Lts as lts
-use Rattle.central.proofs.arithmetic.mask_or_count_of.Reads as mask-or-count-of-reads
-use Rattle.central.proofs.arithmetic.sum_of.Reads as sum-of-reads
-use Rattle.central.proofs.branches.effect_of.Reads as branches-effect-of-reads
-use Rattle.central.proofs.increments.operand.Reads as operand-reads
-use Rattle.central.proofs.registers.x_of.Reads as x-of-reads
-use Rattle.central.proofs.shifts.effect_of.Reads as shifts-effect-of-reads
-use Rattle.word.proofs.logic.logical.Reads as logical-reads
-use Rattle.word.proofs.sums.sign_extend18.Reads as sign-extend18-reads
 
 effect-of-requires : tie.Need-effect-of-requires
 effect-of-requires c κs = search needs

@@ -1,8 +1,7 @@
+-- `central::effect::jump_if` meets its contract. Assumes nothing.
 use borrow.Author.Needs.{needs}
-use Rattle.central.proofs.effect.jump_if.Statement.{statement}
 use Rattle.central.proofs.effect.jump_if.Tie as tie
-use Rattle.central.proofs.effect.jump_if.Reads as reads
-use Rattle.central.proofs.effect.jump_if.Lts as lts
+use Rattle.central.proofs.effect.jump_if.Statement.{statement}
 
 returns : tie.Need-returns
 returns c = rw (c .if1 .taken)

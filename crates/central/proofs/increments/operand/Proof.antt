@@ -1,16 +1,9 @@
-use Rattle.word.proofs.Match.{last-arm}
-use Rattle.central.specs.Effects.{operandOf}
+-- `central::increments::operand` meets its contract. Assumes nothing.
 use borrow.Author.Needs.{needs}
-use Rattle.central.proofs.increments.operand.Statement.{statement}
+use Rattle.word.proofs.Match.{last-arm}
 use Rattle.central.proofs.increments.operand.Tie as tie
-use Rattle.central.proofs.increments.operand.Reads as reads
-use Rattle.central.proofs.increments.operand.Lts as lts
-use Rattle.central.proofs.registers.a_of.Reads as a-of-reads
-use Rattle.central.proofs.registers.b_of.Reads as b-of-reads
-use Rattle.central.proofs.registers.x_of.Reads as x-of-reads
-use Rattle.word.proofs.sums.difference18.Reads as difference18-reads
-use Rattle.word.proofs.sums.low18.Reads as low18-reads
-use Rattle.word.proofs.sums.sum18.Reads as sum18-reads
+use Rattle.central.specs.Effects.{operandOf}
+use Rattle.central.proofs.increments.operand.Statement.{statement}
 
 a-of-requires : tie.Need-a-of-requires
 a-of-requires c κs = search needs

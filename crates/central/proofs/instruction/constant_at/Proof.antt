@@ -1,11 +1,9 @@
+-- `central::instruction::constant_at` meets its contract. Assumes nothing.
 use borrow.Author.Tests.{lt-ltb, le-ltb}
-use Rattle.central.specs.Instruction.{constantAt}
 use borrow.Author.Needs.{needs}
-use Rattle.central.proofs.instruction.constant_at.Statement.{statement}
 use Rattle.central.proofs.instruction.constant_at.Tie as tie
-use Rattle.central.proofs.instruction.constant_at.Reads as reads
-use Rattle.central.proofs.instruction.constant_at.Lts as lts
-use Rattle.word.proofs.fields.constant_k.Reads as constant-k-reads
+use Rattle.central.specs.Instruction.{constantAt}
+use Rattle.central.proofs.instruction.constant_at.Statement.{statement}
 
 constant-k-requires : tie.Need-constant-k-requires
 constant-k-requires c κs = search needs

@@ -1,14 +1,8 @@
-use Rattle.central.specs.Instruction.{decoded}
+-- `central::instruction::decode` meets its contract. Assumes nothing.
 use borrow.Author.Needs.{needs}
-use Rattle.central.proofs.instruction.decode.Statement.{statement}
 use Rattle.central.proofs.instruction.decode.Tie as tie
-use Rattle.central.proofs.instruction.decode.Reads as reads
-use Rattle.central.proofs.instruction.decode.Lts as lts
-use Rattle.central.proofs.instruction.constant_at.Reads as constant-at-reads
-use Rattle.word.proofs.fields.code.Reads as code-reads
-use Rattle.word.proofs.fields.digit.Reads as digit-reads
-use Rattle.word.proofs.fields.jk.Reads as jk-reads
-use Rattle.word.proofs.fields.parcel.Reads as parcel-reads
+use Rattle.central.specs.Instruction.{decoded}
+use Rattle.central.proofs.instruction.decode.Statement.{statement}
 
 parcel-requires : tie.Need-parcel-requires
 parcel-requires c κs = search needs

@@ -1,12 +1,9 @@
+-- `central::instruction::is_fit` meets its contract. Assumes nothing.
 use borrow.Author.Tests.{eq-eqb, ne-eqb}
-use lib.Dec.{eqb}
-use Rattle.central.specs.Instruction.{isFit}
 use borrow.Author.Needs.{needs}
-use Rattle.central.proofs.instruction.is_fit.Statement.{statement}
 use Rattle.central.proofs.instruction.is_fit.Tie as tie
-use Rattle.central.proofs.instruction.is_fit.Reads as reads
-use Rattle.central.proofs.instruction.is_fit.Lts as lts
-use Rattle.central.proofs.instruction.is_left_out.Reads as is-left-out-reads
+use Rattle.central.specs.Instruction.{isFit}
+use Rattle.central.proofs.instruction.is_fit.Statement.{statement}
 
 is-left-out-requires : tie.Need-is-left-out-requires
 is-left-out-requires c κs = search needs

@@ -1,10 +1,9 @@
-use lib.Bits.{and-mask}
-use Rattle.central.specs.Laws.Codes.{left-out-marked}
+-- `central::instruction::is_left_out` meets its contract. Assumes nothing.
 use borrow.Author.Needs.{needs}
-use Rattle.central.proofs.instruction.is_left_out.Statement.{statement}
+use lib.Bits.{and-mask}
 use Rattle.central.proofs.instruction.is_left_out.Tie as tie
-use Rattle.central.proofs.instruction.is_left_out.Reads as reads
-use Rattle.central.proofs.instruction.is_left_out.Lts as lts
+use Rattle.central.specs.Laws.Codes.{left-out-marked}
+use Rattle.central.proofs.instruction.is_left_out.Statement.{statement}
 
 shr-result : tie.Need-shr-result
 shr-result c = search needs

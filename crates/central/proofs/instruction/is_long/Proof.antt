@@ -1,13 +1,9 @@
-use mathlib.Core.Path.{_∙_, ap}
-use Prim.Native.Nat.{ℕ}
-use lib.Bits.{and-mask}
-use lib.Dec.{eqb}
-use Rattle.central.specs.Laws.Codes.{long-marked}
+-- `central::instruction::is_long` meets its contract. Assumes nothing.
 use borrow.Author.Needs.{needs}
-use Rattle.central.proofs.instruction.is_long.Statement.{statement}
+use lib.Bits.{and-mask}
 use Rattle.central.proofs.instruction.is_long.Tie as tie
-use Rattle.central.proofs.instruction.is_long.Reads as reads
-use Rattle.central.proofs.instruction.is_long.Lts as lts
+use Rattle.central.specs.Laws.Codes.{long-marked}
+use Rattle.central.proofs.instruction.is_long.Statement.{statement}
 
 shr-result : tie.Need-shr-result
 shr-result c = search needs

@@ -1,10 +1,8 @@
-use Rattle.central.specs.Instruction.{parcelsOf}
+-- `central::instruction::parcels` meets its contract. Assumes nothing.
 use borrow.Author.Needs.{needs}
-use Rattle.central.proofs.instruction.parcels.Statement.{statement}
 use Rattle.central.proofs.instruction.parcels.Tie as tie
-use Rattle.central.proofs.instruction.parcels.Reads as reads
-use Rattle.central.proofs.instruction.parcels.Lts as lts
-use Rattle.central.proofs.instruction.is_long.Reads as is-long-reads
+use Rattle.central.specs.Instruction.{parcelsOf}
+use Rattle.central.proofs.instruction.parcels.Statement.{statement}
 
 is-long-requires : tie.Need-is-long-requires
 is-long-requires c κs = search needs

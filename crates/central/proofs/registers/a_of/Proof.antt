@@ -1,10 +1,9 @@
+-- `central::registers::a_of` meets its contract. Assumes nothing.
 use mathlib.Core.Path.{refl}
 use native.Mathlib.Omega.{arith}
 use borrow.Author.Needs.{needs}
-use Rattle.central.proofs.registers.a_of.Statement.{statement}
 use Rattle.central.proofs.registers.a_of.Tie as tie
-use Rattle.central.proofs.registers.a_of.Reads as reads
-use Rattle.central.proofs.registers.a_of.Lts as lts
+use Rattle.central.proofs.registers.a_of.Statement.{statement}
 
 mul-result : tie.Need-mul-result
 mul-result c = search needs

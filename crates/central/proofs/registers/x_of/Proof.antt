@@ -1,10 +1,9 @@
+-- `central::registers::x_of` meets its contract. Assumes nothing.
 use mathlib.Core.Path.{refl}
 use Prim.Native.Nat.{_+_}
 use borrow.Author.Needs.{needs}
-use Rattle.central.proofs.registers.x_of.Statement.{statement}
 use Rattle.central.proofs.registers.x_of.Tie as tie
-use Rattle.central.proofs.registers.x_of.Reads as reads
-use Rattle.central.proofs.registers.x_of.Lts as lts
+use Rattle.central.proofs.registers.x_of.Statement.{statement}
 
 add-result : tie.Need-add-result
 add-result c = search needs

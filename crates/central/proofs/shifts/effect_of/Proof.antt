@@ -1,18 +1,9 @@
-use Rattle.word.proofs.Match.{last-arm}
-use Rattle.central.specs.Effects.{shiftOf}
+-- `central::shifts::effect_of` meets its contract. Assumes nothing.
 use borrow.Author.Needs.{needs}
-use Rattle.central.proofs.shifts.effect_of.Statement.{statement}
+use Rattle.word.proofs.Match.{last-arm}
 use Rattle.central.proofs.shifts.effect_of.Tie as tie
-use Rattle.central.proofs.shifts.effect_of.Reads as reads
-use Rattle.central.proofs.shifts.effect_of.Lts as lts
-use Rattle.central.proofs.registers.b_of.Reads as b-of-reads
-use Rattle.central.proofs.registers.x_of.Reads as x-of-reads
-use Rattle.central.proofs.shifts.unpack_to.Reads as unpack-to-reads
-use Rattle.word.proofs.floating.pack.Reads as pack-reads
-use Rattle.word.proofs.shifts.nominal_left.Reads as nominal-left-reads
-use Rattle.word.proofs.shifts.nominal_right.Reads as nominal-right-reads
-use Rattle.word.proofs.shifts.rotate_left60.Reads as rotate-left60-reads
-use Rattle.word.proofs.shifts.shift_right60.Reads as shift-right60-reads
+use Rattle.central.specs.Effects.{shiftOf}
+use Rattle.central.proofs.shifts.effect_of.Statement.{statement}
 
 x-of-requires : tie.Need-x-of-requires
 x-of-requires c κs = search needs

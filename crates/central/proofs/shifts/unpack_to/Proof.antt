@@ -1,11 +1,9 @@
-use Rattle.word.specs.Floating.{unpackedFrom}
-use Rattle.central.specs.Effects.{unpackTo}
+-- `central::shifts::unpack_to` meets its contract. Assumes nothing.
 use borrow.Author.Needs.{needs}
-use Rattle.central.proofs.shifts.unpack_to.Statement.{statement}
+use Rattle.word.specs.Floating.{unpackedFrom}
 use Rattle.central.proofs.shifts.unpack_to.Tie as tie
-use Rattle.central.proofs.shifts.unpack_to.Reads as reads
-use Rattle.central.proofs.shifts.unpack_to.Lts as lts
-use Rattle.word.proofs.floating.unpack.Reads as unpack-reads
+use Rattle.central.specs.Effects.{unpackTo}
+use Rattle.central.proofs.shifts.unpack_to.Statement.{statement}
 
 unpack-requires : tie.Need-unpack-requires
 unpack-requires c κs = search needs

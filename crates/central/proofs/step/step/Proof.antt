@@ -1,20 +1,12 @@
+-- `central::step::step` meets its contract. Assumes nothing.
+use mathlib.Core.Path.{ap}
 use Prim.Native.Nat.{ℕ, _+_}
-use mathlib.Core.Path.{ap, sym, _∙_, subst}
 use native.Mathlib.Omega.{arith}
-use Rattle.central.specs.Instruction.{parcelsOf}
-use Rattle.central.specs.Widths.{Fit}
+use borrow.Author.Needs.{needs}
+use Rattle.central.proofs.step.step.Tie as tie
 use Rattle.central.specs.Laws.Effects.{decoded-fits, effect-sound}
 use Rattle.central.specs.Laws.Step.{ran-unfit, ran-cut, ran-whole, parcels-few}
-use borrow.Author.Needs.{needs}
 use Rattle.central.proofs.step.step.Statement.{statement}
-use Rattle.central.proofs.step.step.Tie as tie
-use Rattle.central.proofs.step.step.Reads as reads
-use Rattle.central.proofs.step.step.Lts as lts
-use Rattle.central.proofs.apply.apply.Reads as apply-reads
-use Rattle.central.proofs.effect.effect_of.Reads as effect-of-reads
-use Rattle.central.proofs.instruction.decode.Reads as decode-reads
-use Rattle.central.proofs.instruction.is_fit.Reads as is-fit-reads
-use Rattle.central.proofs.instruction.parcels.Reads as parcels-reads
 
 decode-requires : tie.Need-decode-requires
 decode-requires c κs = search needs
@@ -22,17 +14,17 @@ decode-requires c κs = search needs
 is-fit-requires : tie.Need-is-fit-requires
 is-fit-requires c κs = rw (c .decode .ensures) (decoded-fits _ _ .code)
 
-returns : tie.Need-returns
-returns c = rw (← c .before .before .decode .ensures) (ran-unfit _ _ _ _ _ _ (c .before .is-fit .ensures) (c .if1 .taken))
-
 parcels-requires : tie.Need-parcels-requires
-parcels-requires c κs = rw (c .before .before .decode .ensures) (decoded-fits _ _ .code)
+parcels-requires c κs = rw (c .before .decode .ensures) (decoded-fits _ _ .code)
 
 add-next : tie.Need-add-next
-add-next c = omega (arith, c .before .before .before .before .before .pre .1 .1 .1, parcels-few _ _ (c .parcels .ensures))
+add-next c = omega (arith, c .before .before .before .before .pre .1 .1 .1, parcels-few _ _ (c .parcels .ensures))
+
+returns : tie.Need-returns
+returns c = rw (← c .before .before .before .decode .ensures) (ran-unfit _ _ _ _ _ _ (c .before .before .is-fit .ensures) (c .if1 .taken))
 
 returns-2 : tie.Need-returns-2
-returns-2 c = rw (← c .before .before .before .before .decode .ensures) (ran-cut _ _ _ _ _ _ (c .before .before .before .is-fit .ensures) (c .before .before .if1 .left) _ (ap (λ (n : ℕ). c .before .before .before .before .before .before .args .place + n) (c .before .parcels .ensures)) (c .if2 .taken))
+returns-2 c = rw (← c .before .before .before .before .decode .ensures) (ran-cut _ _ _ _ _ _ (c .before .before .before .is-fit .ensures) (c .before .if1 .left) _ (ap (λ (n : ℕ). c .before .before .before .before .before .before .args .place + n) (c .before .before .parcels .ensures)) (c .if2 .taken))
 
 effect-of-requires : tie.Need-effect-of-requires
 effect-of-requires c κs = (c .before .before .before .before .before .before .before .pre .0, (rw (c .before .before .before .before .before .decode .ensures) (decoded-fits _ _), c .before .before .before .before .before .before .before .pre .1 .1 .0))
@@ -44,7 +36,7 @@ same-length : tie.Need-same-length
 same-length c = search needs
 
 returns-3 : tie.Need-returns-3
-returns-3 c = rw (← c .before .before .before .before .before .before .before .before .before .before .before .decode .ensures) (ran-whole _ _ _ _ _ _ (c .before .before .before .before .before .before .before .before .before .before .is-fit .ensures) (c .before .before .before .before .before .before .before .before .before .if1 .left) _ (ap (λ (n : ℕ). c .before .before .before .before .before .before .before .before .before .before .before .before .before .args .place + n) (c .before .before .before .before .before .before .before .before .parcels .ensures)) _ _ (c .before .before .before .before .before .before .before .if2 .left) (c .before .before .before .before .before .effect-of .ensures) (c .before .before .apply .ensures))
+returns-3 c = rw (← c .before .before .before .before .before .before .before .before .before .before .before .decode .ensures) (ran-whole _ _ _ _ _ _ (c .before .before .before .before .before .before .before .before .before .before .is-fit .ensures) (c .before .before .before .before .before .before .before .before .if1 .left) _ (ap (λ (n : ℕ). c .before .before .before .before .before .before .before .before .before .before .before .before .before .args .place + n) (c .before .before .before .before .before .before .before .before .before .parcels .ensures)) _ _ (c .before .before .before .before .before .before .before .if2 .left) (c .before .before .before .before .before .effect-of .ensures) (c .before .before .apply .ensures))
 
 pub step-spec : {M : Type 1} → statement M
 step-spec =
@@ -52,9 +44,9 @@ step-spec =
     (tie.spec
     decode-requires
     is-fit-requires
-    returns
     parcels-requires
     add-next
+    returns
     returns-2
     effect-of-requires
     apply-requires

@@ -1,15 +1,12 @@
-use borrow.Author.Needs.{needs}
+-- `central::turn::run_word` meets its contract. Assumes nothing.
 use mathlib.Core.Path.{_∙_, sym}
 use Prim.Native.Nat.{_-_}
 use native.Mathlib.Omega.{arith}
+use borrow.Author.Needs.{needs}
+use Rattle.central.proofs.turn.run_word.Tie as tie
 use Rattle.central.specs.State.{state}
 use Rattle.central.specs.Laws.Turn.{Going, going-start, going-on, going-branch, going-stop, going-end}
 use Rattle.central.proofs.turn.run_word.Statement.{statement}
-use Rattle.central.proofs.turn.run_word.Tie as tie
-use Rattle.central.proofs.turn.run_word.Reads as reads
-use Rattle.central.proofs.turn.run_word.Lts as lts
-use Rattle.central.proofs.step.step.Reads as step-reads
-use Rattle.outcome.proofs.stop.CentralStop.number.Reads as number-reads
 
 abbrev Inv-loop : tie.InvT-loop
 Inv-loop r₀ f₀ b p w place₀ r f place = Going b p w (state r₀ f₀) (state r f) place

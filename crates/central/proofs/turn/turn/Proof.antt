@@ -1,18 +1,12 @@
+-- `central::turn::turn` meets its contract. Assumes nothing.
 use mathlib.Core.Path.{_∙_, sym, subst}
-use native.Mathlib.Omega.{arith}
+use borrow.Author.Needs.{needs}
+use Rattle.central.proofs.turn.turn.Tie as tie
 use Rattle.central.specs.Address.{Within}
 use Rattle.central.specs.Turn.{turnOf}
 use Rattle.central.specs.Laws.Widths.{place-within, inside-below}
 use Rattle.central.specs.declared.address.Place.{Place}
-use borrow.Author.Needs.{needs}
 use Rattle.central.proofs.turn.turn.Statement.{statement}
-use Rattle.central.proofs.turn.turn.Tie as tie
-use Rattle.central.proofs.turn.turn.Reads as reads
-use Rattle.central.proofs.turn.turn.Lts as lts
-use Rattle.central.proofs.address.convert.Reads as convert-reads
-use Rattle.central.proofs.address.index.Reads as index-reads
-use Rattle.central.proofs.turn.run_word.Reads as run-word-reads
-use Rattle.outcome.proofs.stop.CentralStop.number.Reads as number-reads
 
 convert-requires : tie.Need-convert-requires
 convert-requires c κs = search needs

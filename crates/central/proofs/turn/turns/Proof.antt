@@ -1,13 +1,11 @@
+-- `central::turn::turns` meets its contract. Assumes nothing.
 use mathlib.Core.Path.{_∙_, sym}
 use Prim.Native.Nat.{_-_}
 use native.Mathlib.Omega.{arith}
+use Rattle.central.proofs.turn.turns.Tie as tie
 use Rattle.central.specs.State.{state}
 use Rattle.central.specs.Laws.Run.{Going, going-start, going-on, going-stop, going-end}
 use Rattle.central.proofs.turn.turns.Statement.{statement}
-use Rattle.central.proofs.turn.turns.Tie as tie
-use Rattle.central.proofs.turn.turns.Reads as reads
-use Rattle.central.proofs.turn.turns.Lts as lts
-use Rattle.central.proofs.turn.turn.Reads as turn-reads
 
 abbrev Inv-loop : tie.InvT-loop
 Inv-loop r₀ f₀ b p n at₀ made₀ r f at made = Going b n p (state r₀ f₀) (state r f) at made
