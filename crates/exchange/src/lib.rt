@@ -1,0 +1,2 @@
+// The central processor's record, its exchange package, and the exchange jump.
+pub mod record;
