@@ -1,2 +1,4 @@
 -- Consequences of the definitions. Assumes nothing.
 pub mod Indexed
+pub mod Record
+pub mod Package

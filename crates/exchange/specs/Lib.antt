@@ -2,4 +2,9 @@
 pub mod Indexed
 -- numbers 1, 3 and 5 of document 01
 pub mod Record
+-- the package
+pub mod Memory
+pub mod Package
+-- the exchange jump, and numbers 9, 10 and 11
+pub mod Jump
 pub mod Laws

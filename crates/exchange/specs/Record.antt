@@ -1,7 +1,8 @@
 -- The central record and the memory that the host lends, by document 01, "Memory and records" and "Who can be turned down". Assumes nothing.
-use Prim.Native.Nat.{ℕ, _+_, _*_, _^_}
-use mathlib.Core.Bool.{Bool, _&&_, cond}
+use Prim.Native.Nat.{ℕ, _+_, _*_, _^_, _<_}
+use mathlib.Core.Bool.{Bool, true, _&&_, cond}
 use mathlib.Core.List.{List}
+use mathlib.Core.Path.{_≡_}
 use lib.Dec.{ltb, leb, eqb}
 use lib.ListN.{length, getD}
 use Rattle.word.specs.Bits.{bits}
@@ -10,6 +11,16 @@ use Rattle.outcome.specs.declared.refusal.Verdict.{Verdict}
 use Rattle.outcome.specs.declared.refusal.Verdict.the-variants as Call
 use Rattle.exchange.specs.declared.record.Central.{Central}
 use Rattle.exchange.specs.Indexed.{all}
+
+-- A0 to A7, B0 to B7 and X0 to X7 in the list of the 24 registers
+abbrev pub aOf : Central → ℕ → ℕ
+aOf c n = getD (c .registers) n 0
+
+abbrev pub bOf : Central → ℕ → ℕ
+bOf c n = getD (c .registers) (8 + n) 0
+
+abbrev pub xOf : Central → ℕ → ℕ
+xOf c n = getD (c .registers) (16 + n) 0
 
 -- "EM has the bits 010000 (address), 020000 and 040000": bits 12 to 14, and no other
 unfoldable pub emFits : ℕ → Bool
@@ -34,9 +45,18 @@ recordFits length c =
     && ltb (c .fl) (2 ^ 18)
     && leb (c .ra + c .fl) length
     && leb (c .stop) 5
-    && eqb (getD (c .registers) 8 0) 0
+    && eqb (bOf c 0) 0
     && emFits (c .em)
     && registersFit (c .registers)
+
+-- the same without the stop and the length of memory: what is asked of a record that goes into a package
+pub record Wide (c : Central) : Type 0 where
+  pub p-width : c .p < 2 ^ 18
+  pub ra-width : c .ra < 2 ^ 18
+  pub fl-width : c .fl < 2 ^ 18
+  pub em-fits : emFits (c .em) ≡ true
+  pub register-width : (i : ℕ) → i < 24 → getD (c .registers) i 0 < 2 ^ registerWidth i
+  pub b0-zero : bOf c 0 ≡ 0
 
 -- "1 to 131,072 lent words"
 abbrev pub lengthFits : ℕ → Bool

@@ -1,0 +1,14 @@
+use borrow.Author.Tests.{lt-ltb, le-ltb}
+use Rattle.exchange.proofs.package.clean_limit.Statement.{statement}
+use Rattle.exchange.proofs.package.clean_limit.Tie as tie
+use Rattle.exchange.proofs.package.clean_limit.Reads as reads
+use Rattle.exchange.proofs.package.clean_limit.Lts as lts
+
+returns : tie.Need-returns
+returns c = rw (lt-ltb _ _ (c .if1 .taken))
+
+returns-2 : tie.Need-returns-2
+returns-2 c = rw (le-ltb _ _ (c .if1 .left))
+
+pub clean-limit-spec : {M : Type 1} → statement M
+clean-limit-spec = tie.close (tie.spec returns returns-2)
