@@ -1,10 +1,9 @@
+-- `exchange::jump::exchange_jump` meets its contract. Assumes nothing.
+use native.Mathlib.Nat.{add-sub-cancel-left}
 use borrow.Author.Needs.{needs}
+use Rattle.exchange.specs.Jump.{exchanged}
 use Rattle.exchange.proofs.jump.exchange_jump.Statement.{statement}
 use Rattle.exchange.proofs.jump.exchange_jump.Tie as tie
-use Rattle.exchange.proofs.jump.exchange_jump.Reads as reads
-use Rattle.exchange.proofs.jump.exchange_jump.Lts as lts
-use Rattle.exchange.proofs.package.load.Reads as load-reads
-use Rattle.exchange.proofs.package.store.Reads as store-reads
 
 load-requires : tie.Need-load-requires
 load-requires c κs = search needs
@@ -31,7 +30,8 @@ same-length : tie.Need-same-length
 same-length c = search needs
 
 returns : tie.Need-returns
-returns c = ?
+unfolding exchanged
+returns c = rw (c .before .before .before .before .load .ensures, add-sub-cancel-left, c .before .before .store .ensures)
 
 pub exchange-jump-spec : {M : Type 1} → statement M
 exchange-jump-spec =

@@ -1,9 +1,8 @@
-use lib.Bits.{and-mask}
+-- `exchange::package::bits18` meets its contract. Assumes nothing.
 use borrow.Author.Needs.{needs}
+use lib.Bits.{and-mask}
 use Rattle.exchange.proofs.package.bits18.Statement.{statement}
 use Rattle.exchange.proofs.package.bits18.Tie as tie
-use Rattle.exchange.proofs.package.bits18.Reads as reads
-use Rattle.exchange.proofs.package.bits18.Lts as lts
 
 shr-result : tie.Need-shr-result
 shr-result c = search needs

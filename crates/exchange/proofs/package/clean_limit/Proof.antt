@@ -1,8 +1,7 @@
+-- `exchange::package::clean_limit` meets its contract. Assumes nothing.
 use borrow.Author.Tests.{lt-ltb, le-ltb}
 use Rattle.exchange.proofs.package.clean_limit.Statement.{statement}
 use Rattle.exchange.proofs.package.clean_limit.Tie as tie
-use Rattle.exchange.proofs.package.clean_limit.Reads as reads
-use Rattle.exchange.proofs.package.clean_limit.Lts as lts
 
 returns : tie.Need-returns
 returns c = rw (lt-ltb _ _ (c .if1 .taken))

@@ -1,12 +1,11 @@
-use lib.ListN.{List·getD-eq-default}
+-- `exchange::package::control` meets its contract. Assumes nothing.
 use mathlib.Core.Path.{sym}
+use borrow.Author.Needs.{needs}
+use lib.ListN.{List·getD-eq-default}
 use Rattle.word.proofs.Match.{none-le}
 use Rattle.exchange.specs.Package.{controls}
-use borrow.Author.Needs.{needs}
 use Rattle.exchange.proofs.package.control.Statement.{statement}
 use Rattle.exchange.proofs.package.control.Tie as tie
-use Rattle.exchange.proofs.package.control.Reads as reads
-use Rattle.exchange.proofs.package.control.Lts as lts
 
 returns : tie.Need-returns
 returns c = search needs

@@ -1,11 +1,8 @@
-use Rattle.exchange.specs.Package.{decoded}
+-- `exchange::package::decode` meets its contract. Assumes nothing.
 use borrow.Author.Needs.{needs}
+use Rattle.exchange.specs.Package.{decoded}
 use Rattle.exchange.proofs.package.decode.Statement.{statement}
 use Rattle.exchange.proofs.package.decode.Tie as tie
-use Rattle.exchange.proofs.package.decode.Reads as reads
-use Rattle.exchange.proofs.package.decode.Lts as lts
-use Rattle.exchange.proofs.package.bits18.Reads as bits18-reads
-use Rattle.exchange.proofs.package.registers_in.Reads as registers-in-reads
 
 registers-in-requires : tie.Need-registers-in-requires
 registers-in-requires c κs = search needs

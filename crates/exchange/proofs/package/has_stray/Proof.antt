@@ -1,9 +1,9 @@
+-- `exchange::package::has_stray` meets its contract. Assumes nothing.
+use mathlib.Core.Path.{_∙_}
+use native.Mathlib.Nat.{add-sub-cancel-left}
 use borrow.Author.Needs.{needs}
 use Rattle.exchange.proofs.package.has_stray.Statement.{statement}
 use Rattle.exchange.proofs.package.has_stray.Tie as tie
-use Rattle.exchange.proofs.package.has_stray.Reads as reads
-use Rattle.exchange.proofs.package.has_stray.Lts as lts
-use Rattle.exchange.proofs.package.package_has_stray.Reads as package-has-stray-reads
 
 add-end : tie.Need-add-end
 add-end c = search needs
@@ -24,7 +24,7 @@ package-has-stray-requires : tie.Need-package-has-stray-requires
 package-has-stray-requires c κs = search needs
 
 returns : tie.Need-returns
-returns c = ?
+returns c = c .package-has-stray .ensures ∙ rw add-sub-cancel-left
 
 pub has-stray-spec : {M : Type 1} → statement M
 has-stray-spec =

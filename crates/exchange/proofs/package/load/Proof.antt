@@ -1,11 +1,9 @@
+-- `exchange::package::load` meets its contract. Assumes nothing.
 use mathlib.Core.Path.{_∙_}
 use native.Mathlib.Nat.{add-sub-cancel-left}
 use borrow.Author.Needs.{needs}
 use Rattle.exchange.proofs.package.load.Statement.{statement}
 use Rattle.exchange.proofs.package.load.Tie as tie
-use Rattle.exchange.proofs.package.load.Reads as reads
-use Rattle.exchange.proofs.package.load.Lts as lts
-use Rattle.exchange.proofs.package.decode.Reads as decode-reads
 
 add-end : tie.Need-add-end
 add-end c = search needs

@@ -1,11 +1,11 @@
+-- `exchange::package::package_has_stray` meets its contract. Assumes nothing.
+use mathlib.Core.Path.{sym, _∙_, ap}
+use mathlib.Core.Bool.{not}
+use borrow.Author.Tests.{eq-eqb, ne-eqb}
 use borrow.Author.Needs.{needs}
+use Rattle.exchange.specs.Package.{hasStray}
 use Rattle.exchange.proofs.package.package_has_stray.Statement.{statement}
 use Rattle.exchange.proofs.package.package_has_stray.Tie as tie
-use Rattle.exchange.proofs.package.package_has_stray.Reads as reads
-use Rattle.exchange.proofs.package.package_has_stray.Lts as lts
-use Rattle.exchange.proofs.package.bits18.Reads as bits18-reads
-use Rattle.exchange.proofs.package.words_are_clean.Reads as words-are-clean-reads
-use Rattle.exchange.proofs.record.em_fits.Reads as em-fits-reads
 
 shared-slice-read-bits18 : tie.Need-shared-slice-read-bits18
 shared-slice-read-bits18 c = search needs
@@ -26,13 +26,16 @@ em-fits-requires : tie.Need-em-fits-requires
 em-fits-requires c κs = search needs
 
 returns : tie.Need-returns
-returns c = ?
+unfolding hasStray
+returns c = rw (sym (c .before .before .before .words-are-clean .ensures) ∙ c .before .before .if1 .taken, eq-eqb _ 0 (sym (c .before .before .before .before .before .before .bits18 .ensures) ∙ c .before .if2 .taken), ← c .before .before .before .before .bits182 .ensures) (ap not (c .em-fits .ensures))
 
 returns-2 : tie.Need-returns-2
-returns-2 c = ?
+unfolding hasStray
+returns-2 c = rw (sym (c .before .before .words-are-clean .ensures) ∙ c .before .if1 .taken, ← c .before .before .before .before .before .bits18 .ensures, ne-eqb _ 0 (c .if2 .left))
 
 returns-3 : tie.Need-returns-3
-returns-3 c = ?
+unfolding hasStray
+returns-3 c = rw (sym (c .before .words-are-clean .ensures) ∙ c .if1 .left)
 
 pub package-has-stray-spec : {M : Type 1} → statement M
 package-has-stray-spec =

@@ -1,17 +1,14 @@
-use native.Mathlib.Omega.{arith}
+-- `exchange::package::package_word` meets its contract. Assumes nothing.
 use borrow.Author.Tests.{lt-ltb, le-ltb}
+use borrow.Author.Needs.{needs}
 use lib.ListN.{getD}
 use Rattle.exchange.specs.Record.{aOf, bOf}
 use Rattle.exchange.specs.Package.{controls, packageWord}
 use Rattle.exchange.specs.Laws.Record.{a-width, b-width}
 use Rattle.exchange.specs.Laws.Package.{control-width}
 use Rattle.exchange.proofs.Machine.{three-fields}
-use borrow.Author.Needs.{needs}
 use Rattle.exchange.proofs.package.package_word.Statement.{statement}
 use Rattle.exchange.proofs.package.package_word.Tie as tie
-use Rattle.exchange.proofs.package.package_word.Reads as reads
-use Rattle.exchange.proofs.package.package_word.Lts as lts
-use Rattle.exchange.proofs.package.control.Reads as control-reads
 
 control-requires : tie.Need-control-requires
 control-requires c κs = search needs

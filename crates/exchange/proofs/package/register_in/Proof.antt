@@ -1,11 +1,9 @@
+-- `exchange::package::register_in` meets its contract. Assumes nothing.
 use borrow.Author.Tests.{lt-ltb, le-ltb}
-use Rattle.exchange.specs.Package.{registerIn}
 use borrow.Author.Needs.{needs}
+use Rattle.exchange.specs.Package.{registerIn}
 use Rattle.exchange.proofs.package.register_in.Statement.{statement}
 use Rattle.exchange.proofs.package.register_in.Tie as tie
-use Rattle.exchange.proofs.package.register_in.Reads as reads
-use Rattle.exchange.proofs.package.register_in.Lts as lts
-use Rattle.exchange.proofs.package.bits18.Reads as bits18-reads
 
 mul-bits18 : tie.Need-mul-bits18
 mul-bits18 c = search needs

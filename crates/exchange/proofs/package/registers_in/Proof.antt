@@ -1,3 +1,4 @@
+-- `exchange::package::registers_in` meets its contract. Assumes nothing.
 use mathlib.Core.Path.{_≡_, refl}
 use Prim.Native.Nat.{_≤_, _-_}
 use native.Mathlib.Omega.{arith}
@@ -7,9 +8,6 @@ use Rattle.exchange.specs.Package.{registerIn}
 use Rattle.exchange.specs.Laws.Indexed.{tabulate-more, tabulate-all}
 use Rattle.exchange.proofs.package.registers_in.Statement.{statement}
 use Rattle.exchange.proofs.package.registers_in.Tie as tie
-use Rattle.exchange.proofs.package.registers_in.Reads as reads
-use Rattle.exchange.proofs.package.registers_in.Lts as lts
-use Rattle.exchange.proofs.package.register_in.Reads as register-in-reads
 
 abbrev Inv-loop : tie.InvT-loop
 Inv-loop w registers₀ i₀ registers i = (i ≤ 24) × (take i registers ≡ tabulate i (registerIn w)) × (length registers ≡ 24)

@@ -1,3 +1,4 @@
+-- `exchange::package::store` meets its contract. Assumes nothing.
 use mathlib.Core.Path.{_≡_, refl, sym, _∙_}
 use Prim.Native.Nat.{_≤_, _-_}
 use native.Mathlib.Omega.{arith}
@@ -7,9 +8,6 @@ use Rattle.exchange.specs.Package.{packageWord, coded}
 use Rattle.exchange.specs.Laws.Indexed.{tabulate-more, tabulate-all}
 use Rattle.exchange.proofs.package.store.Statement.{statement}
 use Rattle.exchange.proofs.package.store.Tie as tie
-use Rattle.exchange.proofs.package.store.Reads as reads
-use Rattle.exchange.proofs.package.store.Lts as lts
-use Rattle.exchange.proofs.package.package_word.Reads as package-word-reads
 
 abbrev Inv-loop : tie.InvT-loop
 Inv-loop w₀ c n₀ w n = (n ≤ 16) × (take n w ≡ tabulate n (packageWord c)) × (length w ≡ 16)

@@ -1,18 +1,16 @@
+-- `exchange::package::words_are_clean` meets its contract. Assumes nothing.
 use mathlib.Core.Bool.{true}
-use mathlib.Core.Path.{_≡_, refl, sym, ap, _∙_}
-use Prim.Native.Nat.{_≤_, _<_, _-_, _^_}
+use mathlib.Core.Path.{_≡_, refl, sym}
+use Prim.Native.Nat.{_≤_, _-_, _^_}
+use native.Mathlib.Omega.{arith}
 use borrow.Author.Needs.{needs}
 use borrow.Author.Tests.{lt-ltb, le-ltb}
 use lib.ListN.{getD}
-use native.Mathlib.Omega.{arith}
 use Rattle.exchange.specs.Indexed.{all}
 use Rattle.exchange.specs.Package.{cleanBits, wordIsClean}
 use Rattle.exchange.specs.Laws.Indexed.{all-more, all-not}
 use Rattle.exchange.proofs.package.words_are_clean.Statement.{statement}
 use Rattle.exchange.proofs.package.words_are_clean.Tie as tie
-use Rattle.exchange.proofs.package.words_are_clean.Reads as reads
-use Rattle.exchange.proofs.package.words_are_clean.Lts as lts
-use Rattle.exchange.proofs.package.clean_limit.Reads as clean-limit-reads
 
 abbrev Inv-loop : tie.InvT-loop
 Inv-loop w n₀ n = (n ≤ 8) × (all n (wordIsClean w) ≡ true)
