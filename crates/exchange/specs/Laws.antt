@@ -1,4 +1,5 @@
 -- Consequences of the definitions. Assumes nothing.
 pub mod Indexed
 pub mod Record
+pub mod Memory
 pub mod Package

@@ -22,6 +22,10 @@ bOf c n = getD (c .registers) (8 + n) 0
 abbrev pub xOf : Central → ℕ → ℕ
 xOf c n = getD (c .registers) (16 + n) 0
 
+-- the record with the processor running
+abbrev pub running : Central → Central
+running c = record { p = c .p; ra = c .ra; fl = c .fl; em = c .em; registers = c .registers; stop = 0 }
+
 -- "EM has the bits 010000 (address), 020000 and 040000": bits 12 to 14, and no other
 unfoldable pub emFits : ℕ → Bool
 emFits em = eqb em (bits em 12 3 * 2 ^ 12)

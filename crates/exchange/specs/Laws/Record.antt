@@ -2,8 +2,8 @@
 use mathlib.Core.Bool.{Bool, true, false, _&&_}
 use mathlib.Core.List.{List}
 use mathlib.Core.Logic.{⊎-elim}
-use mathlib.Core.Path.{_≡_, sym, _∙_}
-use Prim.Native.Nat.{ℕ, _+_, _*_, _^_, _≤_, _<_}
+use mathlib.Core.Path.{_≡_, subst}
+use Prim.Native.Nat.{ℕ, _+_, _-_, _*_, _^_, _≤_, _<_}
 use native.Mathlib.Omega.{arith}
 use borrow.Author.Tests.{ltb-true, leb-true, eqb-true, lt-ltb, le-ltb, le-leb, eq-eqb}
 use lib.Dec.{ltb, leb, eqb, lit<}
@@ -25,6 +25,17 @@ use Rattle.exchange.specs.Record.{
   wordsFit,
 }
 use Rattle.exchange.specs.Laws.Indexed.{both, all-at, all-of}
+
+-- what holds of the places of A, of B and of X holds of each of the 24 places
+pub each-register : (P : ℕ → Type 0) → ((n : ℕ) → n < 8 → P n) → ((n : ℕ) → n < 8 → P (8 + n)) → ((n : ℕ) → n < 8 → P (16 + n)) → (i : ℕ) → i < 24 → P i
+each-register P a b x i h =
+    ⊎-elim
+    (λ g. let e : 16 + (i - 16) ≡ i = omega arith in subst P e (x (i - 16) (omega arith)))
+    (λ g. ⊎-elim
+    (λ j. let e : 8 + (i - 8) ≡ i = omega arith in subst P e (b (i - 8) (omega arith)))
+    (λ j. a i j)
+    (le-or-lt 8 i))
+    (le-or-lt 16 i)
 
 pub em-bits : (em : ℕ) → emFits em ≡ true → em ≡ bits em 12 3 * 2 ^ 12
 unfolding emFits
