@@ -3,3 +3,5 @@ pub mod Indexed
 pub mod Record
 pub mod Memory
 pub mod Package
+pub mod Verdicts
+pub mod Jump

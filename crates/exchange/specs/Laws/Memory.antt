@@ -4,7 +4,7 @@ use mathlib.Core.Logic.{⊎-elim}
 use mathlib.Core.Path.{_≡_, ap, _∙_}
 use Prim.Native.Nat.{ℕ, _+_, _-_, _≤_, _<_}
 use native.Mathlib.Omega.{arith}
-use lib.ListN.{length, getD, take, drop, length-take, length-drop, length-append, take-append-drop, List·getD-append}
+use lib.ListN.{length, getD, take, drop, length-take, length-drop, length-append, take-append-drop, List·getD-append, List·getD-eq-default}
 use lib.Seq.{length-take-le, take-at, drop-at, getD-take, getD-drop, getD-append-add}
 use Rattle.word.specs.Laws.Choice.{le-or-lt}
 use Rattle.exchange.specs.Memory.{part, splice}
@@ -15,6 +15,14 @@ module _ (m : List ℕ) (a n : ℕ) where
 
   pub word-in-part : (i : ℕ) → i < n → getD (part m a n) i 0 ≡ getD m (a + i) 0
   word-in-part i h = getD-take n (drop a m) i 0 h ∙ getD-drop a m i 0
+
+  past-part : (i : ℕ) → n ≤ i → getD (part m a n) i 0 ≡ 0
+  past-part i h = List·getD-eq-default (part m a n) 0 {n = i} (simp length-take (omega arith))
+
+  -- a bound of every word, and of 0 past the end
+  pub part-lt : (B : ℕ) → ((i : ℕ) → getD m i 0 < B) → (i : ℕ) → getD (part m a n) i 0 < B
+  part-lt B h i =
+      ⊎-elim (λ g. omega (arith, past-part i g, h 0)) (λ g. rw (word-in-part i g) (h (a + i))) (le-or-lt n i)
 
   -- a part replaced by itself
   pub splice-part : splice m a n (part m a n) ≡ m
@@ -62,7 +70,6 @@ module _ (m : List ℕ) (a n : ℕ) (v : List ℕ) (inside : a + n ≤ length m)
       ∙ getD-drop a m (n + j) 0
       ∙ ap (λ (x : ℕ). getD m x 0) (f ∙ e))
 
-  -- a bound of every word, and of 0 past the end
   pub splice-lt : (B : ℕ) → ((i : ℕ) → getD m i 0 < B) → ((i : ℕ) → getD v i 0 < B) → (i : ℕ) → getD (splice m a n v) i 0 < B
   splice-lt B hm hv i =
       ⊎-elim
