@@ -117,7 +117,11 @@ pub fn store(w: &mut [u64], c: Central)
 fn clean_limit(n: usize) -> u64
     ensures { λ r. ⌜ r ≡ 2 ^ cleanBits n ⌝ }
 {
-    if n < 4 { 0o1000000000000000000 } else { 0o1000000000000 }
+    if n < 4 {
+        0o1000000000000000000
+    } else {
+        0o1000000000000
+    }
 }
 
 // No bit is set above P, RA, FL and EM in words 0 to 3, and none above A in words 4 to 7.

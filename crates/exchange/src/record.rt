@@ -21,7 +21,7 @@ pub struct Central {
 pub fn em_fits(em: u64) -> bool
     ensures { λ r. ⌜ r ≡ emFits em ⌝ }
 {
-    em == ((em >> 12) & 7) * 0o10000
+    em == ((em >> 12) & 7) << 12
 }
 
 // The first number that is too wide for register i: A and B registers come before X0 at 16.

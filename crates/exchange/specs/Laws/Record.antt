@@ -72,14 +72,14 @@ fits n c h =
     let h₁ = both (ltb (c .p) (2 ^ 18)) (ltb (c .ra) (2 ^ 18)) (h₂ .0) in
     record {
       wide =
-        record {
-          p-width = ltb-true (c .p) (2 ^ 18) (h₁ .0);
-          ra-width = ltb-true (c .ra) (2 ^ 18) (h₁ .1);
-          fl-width = ltb-true (c .fl) (2 ^ 18) (h₂ .1);
-          em-fits = h₆ .1;
-          register-width = λ i l. ltb-true (getD (c .registers) i 0) (2 ^ registerWidth i) (all-at (registerFits (c .registers)) 24 (h₇ .1) i l);
-          b0-zero = eqb-true (bOf c 0) 0 (h₅ .1);
-        };
+          record {
+            p-width = ltb-true (c .p) (2 ^ 18) (h₁ .0);
+            ra-width = ltb-true (c .ra) (2 ^ 18) (h₁ .1);
+            fl-width = ltb-true (c .fl) (2 ^ 18) (h₂ .1);
+            em-fits = h₆ .1;
+            register-width = λ i l. ltb-true (getD (c .registers) i 0) (2 ^ registerWidth i) (all-at (registerFits (c .registers)) 24 (h₇ .1) i l);
+            b0-zero = eqb-true (bOf c 0) 0 (h₅ .1);
+          };
       field = leb-true (c .ra + c .fl) n (h₃ .1);
       stop = leb-true (c .stop) 5 (h₄ .1);
     }

@@ -15,25 +15,45 @@ package-is-inside-requires : tie.Need-package-is-inside-requires
 package-is-inside-requires c κs = search needs
 
 has-stray-requires : tie.Need-has-stray-requires
-has-stray-requires c κs = leb-true (c .before .before .before .args .at + 16) (length (c .before .before .before .args .m .now)) (sym (c .before .package-is-inside .ensures) ∙ c .if1 .taken)
+has-stray-requires c κs =
+    leb-true (c .before .before .before .args .at + 16) (length (c .before .before .before .args .m .now)) (sym (c .before .package-is-inside .ensures) ∙ c .if1 .taken)
 
 returns : tie.Need-returns
 unfolding packageVerdict
-returns c = rw (sym (c .before .before .before .package-is-inside .ensures) ∙ c .before .before .if1 .taken, sym (c .before .has-stray .ensures) ∙ c .if2 .taken)
+returns c =
+    rw (
+      sym (c .before .before .before .package-is-inside .ensures) ∙ c .before .before .if1 .taken,
+      sym (c .before .has-stray .ensures) ∙ c .if2 .taken,
+    )
 
 load-requires : tie.Need-load-requires
-load-requires c κs = leb-true (c .before .before .before .before .before .args .at + 16) (length (c .before .before .before .before .before .args .m .now)) (sym (c .before .before .before .package-is-inside .ensures) ∙ c .before .before .if1 .taken)
+load-requires c κs =
+    leb-true (c .before .before .before .before .before .args .at + 16) (length (c .before .before .before .before .before .args .m .now)) (sym (c .before .before .before .package-is-inside .ensures) ∙ c .before .before .if1 .taken)
 
 add-if3 : tie.Need-add-if3
-add-if3 c = let width = rw (← c .before .load .ensures) at (field-width (part (c .before .before .before .before .before .before .before .args .m .now) (c .before .before .before .before .before .before .before .args .at) 16)) in omega arith
+add-if3 c =
+    let width = rw (← c .before .load .ensures) at (field-width (part (c .before .before .before .before .before .before .before .args .m .now) (c .before .before .before .before .before .before .before .args .at) 16)) in
+    omega arith
 
 returns-2 : tie.Need-returns-2
 unfolding packageVerdict
-returns-2 c = rw (sym (c .before .before .before .before .before .before .package-is-inside .ensures) ∙ c .before .before .before .before .before .if1 .taken, sym (c .before .before .before .before .has-stray .ensures) ∙ c .before .before .before .if2 .left, ← c .before .before .load .ensures, lt-leb _ _ (c .if3 .taken))
+returns-2 c =
+    rw (
+      sym (c .before .before .before .before .before .before .package-is-inside .ensures) ∙ c .before .before .before .before .before .if1 .taken,
+      sym (c .before .before .before .before .has-stray .ensures) ∙ c .before .before .before .if2 .left,
+      ← c .before .before .load .ensures,
+      lt-leb _ _ (c .if3 .taken),
+    )
 
 returns-3 : tie.Need-returns-3
 unfolding packageVerdict
-returns-3 c = rw (sym (c .before .before .before .before .before .before .package-is-inside .ensures) ∙ c .before .before .before .before .before .if1 .taken, sym (c .before .before .before .before .has-stray .ensures) ∙ c .before .before .before .if2 .left, ← c .before .before .load .ensures, le-leb _ _ (c .if3 .left))
+returns-3 c =
+    rw (
+      sym (c .before .before .before .before .before .before .package-is-inside .ensures) ∙ c .before .before .before .before .before .if1 .taken,
+      sym (c .before .before .before .before .has-stray .ensures) ∙ c .before .before .before .if2 .left,
+      ← c .before .before .load .ensures,
+      le-leb _ _ (c .if3 .left),
+    )
 
 returns-4 : tie.Need-returns-4
 unfolding packageVerdict

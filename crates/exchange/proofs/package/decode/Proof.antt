@@ -33,7 +33,14 @@ bits18-requires-4 c κs = search needs
 
 returns : tie.Need-returns
 unfolding decoded
-returns c = rw (c .before .before .before .before .before .before .before .before .registers-in .ensures, c .before .before .before .before .before .before .bits18 .ensures, c .before .before .before .before .bits182 .ensures, c .before .before .bits183 .ensures, c .bits184 .ensures)
+returns c =
+    rw (
+      c .before .before .before .before .before .before .before .before .registers-in .ensures,
+      c .before .before .before .before .before .before .bits18 .ensures,
+      c .before .before .before .before .bits182 .ensures,
+      c .before .before .bits183 .ensures,
+      c .bits184 .ensures,
+    )
 
 pub decode-spec : {M : Type 1} → statement M
 decode-spec =

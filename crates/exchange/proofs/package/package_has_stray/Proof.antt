@@ -27,11 +27,22 @@ em-fits-requires c κs = search needs
 
 returns : tie.Need-returns
 unfolding hasStray
-returns c = rw (sym (c .before .before .before .words-are-clean .ensures) ∙ c .before .before .if1 .taken, eq-eqb _ 0 (sym (c .before .before .before .before .before .before .bits18 .ensures) ∙ c .before .if2 .taken), ← c .before .before .before .before .bits182 .ensures) (ap not (c .em-fits .ensures))
+returns c =
+    rw (
+      sym (c .before .before .before .words-are-clean .ensures) ∙ c .before .before .if1 .taken,
+      eq-eqb _ 0 (sym (c .before .before .before .before .before .before .bits18 .ensures) ∙ c .before .if2 .taken),
+      ← c .before .before .before .before .bits182 .ensures,
+    )
+    (ap not (c .em-fits .ensures))
 
 returns-2 : tie.Need-returns-2
 unfolding hasStray
-returns-2 c = rw (sym (c .before .before .words-are-clean .ensures) ∙ c .before .if1 .taken, ← c .before .before .before .before .before .bits18 .ensures, ne-eqb _ 0 (c .if2 .left))
+returns-2 c =
+    rw (
+      sym (c .before .before .words-are-clean .ensures) ∙ c .before .if1 .taken,
+      ← c .before .before .before .before .before .bits18 .ensures,
+      ne-eqb _ 0 (c .if2 .left),
+    )
 
 returns-3 : tie.Need-returns-3
 unfolding hasStray

@@ -30,7 +30,16 @@ element-copy-out-b c = search needs
 
 returns : tie.Need-returns
 unfolding packageWord
-returns c = let r = c .before .before .before .before .args .t1 in let n = c .before .before .before .before .args .n in let h = c .before .before .before .if1 .taken in let w = c .before .before .before .before .pre .1 in rw (lt-ltb n 8 h, c .before .before .control .ensures) (three-fields (getD (controls r) n 0) (aOf r n) (bOf r n) (control-width r w n) (a-width r w n h) (b-width r w n h))
+returns c =
+    let r = c .before .before .before .before .args .t1 in
+    let n = c .before .before .before .before .args .n in
+    let h = c .before .before .before .if1 .taken in
+    let w = c .before .before .before .before .pre .1 in
+    rw (
+      lt-ltb n 8 h,
+      c .before .before .control .ensures,
+    )
+    (three-fields (getD (controls r) n 0) (aOf r n) (bOf r n) (control-width r w n) (a-width r w n h) (b-width r w n h))
 
 add-result : tie.Need-add-result
 add-result c = search needs

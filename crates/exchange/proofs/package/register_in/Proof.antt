@@ -29,11 +29,20 @@ bits18-requires-2 c κs = search needs
 
 returns-2 : tie.Need-returns-2
 unfolding registerIn
-returns-2 c = rw (le-ltb (c .before .before .before .before .before .args .i) 8 (c .before .before .before .if1 .left), lt-ltb (c .before .before .before .before .before .args .i) 16 (c .before .if2 .taken)) (c .bits182 .ensures)
+returns-2 c =
+    rw (
+      le-ltb (c .before .before .before .before .before .args .i) 8 (c .before .before .before .if1 .left),
+      lt-ltb (c .before .before .before .before .before .args .i) 16 (c .before .if2 .taken),
+    )
+    (c .bits182 .ensures)
 
 returns-3 : tie.Need-returns-3
 unfolding registerIn
-returns-3 c = rw (le-ltb (c .before .before .before .before .args .i) 8 (c .before .before .if1 .left), le-ltb (c .before .before .before .before .args .i) 16 (c .if2 .left))
+returns-3 c =
+    rw (
+      le-ltb (c .before .before .before .before .args .i) 8 (c .before .before .if1 .left),
+      le-ltb (c .before .before .before .before .args .i) 16 (c .if2 .left),
+    )
 
 pub register-in-spec : {M : Type 1} → statement M
 register-in-spec =

@@ -35,10 +35,18 @@ loop-less : tie.Need-loop-less Inv-loop μ-loop
 loop-less c = omega arith
 
 loop-again : tie.Need-loop-again Inv-loop μ-loop
-loop-again c = let l = c .before .before .loop in (omega arith, rw (c .register-in .ensures) (tabulate-more (registerIn (c .before .before .before .before .args .w .now)) (l .i) (l .registers) (omega arith) (l .inv .1)), simp length-set (l .inv .2))
+loop-again c =
+    let l = c .before .before .loop in (
+      omega arith,
+      rw (c .register-in .ensures) (tabulate-more (registerIn (c .before .before .before .before .args .w .now)) (l .i) (l .registers) (omega arith) (l .inv .1)),
+      simp length-set (l .inv .2),
+    )
 
 returns : tie.Need-returns Inv-loop μ-loop
-returns c = let l = c .before .loop in let e : l .i ≡ 24 = omega arith in tabulate-all (registerIn (c .before .before .before .args .w .now)) 24 (l .registers) (l .inv .2) (rw e at (l .inv .1))
+returns c =
+    let l = c .before .loop in
+    let e : l .i ≡ 24 = omega arith in
+    tabulate-all (registerIn (c .before .before .before .args .w .now)) 24 (l .registers) (l .inv .2) (rw e at (l .inv .1))
 
 pub registers-in-spec : {M : Type 1} → statement M
 registers-in-spec =

@@ -35,14 +35,22 @@ loop-less : tie.Need-loop-less Inv-loop μ-loop
 loop-less c = omega arith
 
 loop-again : tie.Need-loop-again Inv-loop μ-loop
-loop-again c = let l = c .before .before .loop in (omega arith, rw (c .package-word .ensures) (tabulate-more (packageWord (c .before .before .before .before .args .c)) (l .n) (l .w) (omega arith) (l .inv .1)), simp length-set (l .inv .2))
+loop-again c =
+    let l = c .before .before .loop in (
+      omega arith,
+      rw (c .package-word .ensures) (tabulate-more (packageWord (c .before .before .before .before .args .c)) (l .n) (l .w) (omega arith) (l .inv .1)),
+      simp length-set (l .inv .2),
+    )
 
 same-length : tie.Need-same-length Inv-loop μ-loop
 same-length c = c .before .loop .inv .2 ∙ sym (c .before .before .before .pre .0)
 
 returns : tie.Need-returns Inv-loop μ-loop
 unfolding coded
-returns c = let l = c .before .loop in let e : l .n ≡ 16 = omega arith in tabulate-all (packageWord (c .before .before .before .args .c)) 16 (l .w) (l .inv .2) (rw e at (l .inv .1))
+returns c =
+    let l = c .before .loop in
+    let e : l .n ≡ 16 = omega arith in
+    tabulate-all (packageWord (c .before .before .before .args .c)) 16 (l .w) (l .inv .2) (rw e at (l .inv .1))
 
 pub store-spec : {M : Type 1} → statement M
 store-spec =

@@ -32,7 +32,10 @@ shared-slice-read-if1 : tie.Need-shared-slice-read-if1 Inv-loop μ-loop
 shared-slice-read-if1 c = omega arith
 
 returns : tie.Need-returns Inv-loop μ-loop
-returns c = let w = c .before .before .before .before .before .before .args .w .now in let n = c .before .before .before .before .loop .n in sym (all-not (wordIsClean w) 8 n (c .before .before .before .loop-test .taken) (le-ltb (getD w n 0) (2 ^ cleanBits n) (rw (c .before .before .clean-limit .ensures) at (c .if1 .taken))))
+returns c =
+    let w = c .before .before .before .before .before .before .args .w .now in
+    let n = c .before .before .before .before .loop .n in
+    sym (all-not (wordIsClean w) 8 n (c .before .before .before .loop-test .taken) (le-ltb (getD w n 0) (2 ^ cleanBits n) (rw (c .before .before .clean-limit .ensures) at (c .if1 .taken))))
 
 add-n : tie.Need-add-n Inv-loop μ-loop
 add-n c = omega arith
@@ -41,10 +44,17 @@ loop-less : tie.Need-loop-less Inv-loop μ-loop
 loop-less c = omega arith
 
 loop-again : tie.Need-loop-again Inv-loop μ-loop
-loop-again c = let w = c .before .before .before .before .before .before .args .w .now in let n = c .before .before .before .before .loop .n in (omega arith, all-more (wordIsClean w) n (c .before .before .before .before .loop .inv .1) (lt-ltb (getD w n 0) (2 ^ cleanBits n) (rw (c .before .before .clean-limit .ensures) at (c .if1 .left))))
+loop-again c =
+    let w = c .before .before .before .before .before .before .args .w .now in
+    let n = c .before .before .before .before .loop .n in (
+      omega arith,
+      all-more (wordIsClean w) n (c .before .before .before .before .loop .inv .1) (lt-ltb (getD w n 0) (2 ^ cleanBits n) (rw (c .before .before .clean-limit .ensures) at (c .if1 .left))),
+    )
 
 returns-2 : tie.Need-returns-2 Inv-loop μ-loop
-returns-2 c = let e : c .before .loop .n ≡ 8 = omega arith in sym (rw e at (c .before .loop .inv .1))
+returns-2 c =
+    let e : c .before .loop .n ≡ 8 = omega arith in
+    sym (rw e at (c .before .loop .inv .1))
 
 pub words-are-clean-spec : {M : Type 1} → statement M
 words-are-clean-spec =

@@ -33,7 +33,10 @@ array-read-if1 c = omega arith
 
 returns : tie.Need-returns Inv-loop μ-loop
 unfolding registersFit
-returns c = let r = c .before .before .before .before .args .t1 in let i = c .before .before .before .loop .i in sym (all-not (registerFits r) 24 i (c .before .before .loop-test .taken) (le-ltb (getD r i 0) (2 ^ registerWidth i) (rw (c .before .register-limit .ensures) at (c .if1 .taken))))
+returns c =
+    let r = c .before .before .before .before .args .t1 in
+    let i = c .before .before .before .loop .i in
+    sym (all-not (registerFits r) 24 i (c .before .before .loop-test .taken) (le-ltb (getD r i 0) (2 ^ registerWidth i) (rw (c .before .register-limit .ensures) at (c .if1 .taken))))
 
 add-i : tie.Need-add-i Inv-loop μ-loop
 add-i c = omega arith
@@ -42,11 +45,18 @@ loop-less : tie.Need-loop-less Inv-loop μ-loop
 loop-less c = omega arith
 
 loop-again : tie.Need-loop-again Inv-loop μ-loop
-loop-again c = let r = c .before .before .before .before .args .t1 in let i = c .before .before .before .loop .i in (omega arith, all-more (registerFits r) i (c .before .before .before .loop .inv .1) (lt-ltb (getD r i 0) (2 ^ registerWidth i) (rw (c .before .register-limit .ensures) at (c .if1 .left))))
+loop-again c =
+    let r = c .before .before .before .before .args .t1 in
+    let i = c .before .before .before .loop .i in (
+      omega arith,
+      all-more (registerFits r) i (c .before .before .before .loop .inv .1) (lt-ltb (getD r i 0) (2 ^ registerWidth i) (rw (c .before .register-limit .ensures) at (c .if1 .left))),
+    )
 
 returns-2 : tie.Need-returns-2 Inv-loop μ-loop
 unfolding registersFit
-returns-2 c = let e : c .before .loop .i ≡ 24 = omega arith in sym (rw e at (c .before .loop .inv .1))
+returns-2 c =
+    let e : c .before .loop .i ≡ 24 = omega arith in
+    sym (rw e at (c .before .loop .inv .1))
 
 pub registers-fit-spec : {M : Type 1} → statement M
 registers-fit-spec =

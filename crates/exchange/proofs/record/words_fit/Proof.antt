@@ -30,7 +30,10 @@ shared-slice-read-if1 c = search needs
 
 returns : tie.Need-returns Inv-loop μ-loop
 unfolding wordsFit
-returns c = let m = c .before .before .before .before .args .m .now in let i = c .before .before .before .loop .i in sym (all-not (wordFits m) (length m) i (c .before .before .loop-test .taken) (le-ltb (getD m i 0) (2 ^ 60) (omega arith)))
+returns c =
+    let m = c .before .before .before .before .args .m .now in
+    let i = c .before .before .before .loop .i in
+    sym (all-not (wordFits m) (length m) i (c .before .before .loop-test .taken) (le-ltb (getD m i 0) (2 ^ 60) (omega arith)))
 
 add-i : tie.Need-add-i Inv-loop μ-loop
 add-i c = omega arith
@@ -39,11 +42,17 @@ loop-less : tie.Need-loop-less Inv-loop μ-loop
 loop-less c = omega arith
 
 loop-again : tie.Need-loop-again Inv-loop μ-loop
-loop-again c = let m = c .before .before .before .before .args .m .now in let i = c .before .before .before .loop .i in (omega arith, all-more (wordFits m) i (c .before .before .before .loop .inv .1) (lt-ltb (getD m i 0) (2 ^ 60) (omega arith)))
+loop-again c =
+    let m = c .before .before .before .before .args .m .now in
+    let i = c .before .before .before .loop .i in
+    (omega arith, all-more (wordFits m) i (c .before .before .before .loop .inv .1) (lt-ltb (getD m i 0) (2 ^ 60) (omega arith)))
 
 returns-2 : tie.Need-returns-2 Inv-loop μ-loop
 unfolding wordsFit
-returns-2 c = let m = c .before .before .args .m .now in let e : c .before .loop .i ≡ length m = omega arith in sym (rw e at (c .before .loop .inv .1))
+returns-2 c =
+    let m = c .before .before .args .m .now in
+    let e : c .before .loop .i ≡ length m = omega arith in
+    sym (rw e at (c .before .loop .inv .1))
 
 pub words-fit-spec : {M : Type 1} → statement M
 words-fit-spec =
