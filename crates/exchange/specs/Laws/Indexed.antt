@@ -63,7 +63,8 @@ module _ (entry : ℕ → ℕ) where
       (le-or-lt n i)
 
   -- a loop that stores entry i at i
-  pub tabulate-more : (n : ℕ) (l : List ℕ) → n < length l → take n l ≡ tabulate n entry → take (n + 1) (set l n (entry n)) ≡ tabulate (n + 1) entry
+  pub tabulate-more : (n : ℕ) (l : List ℕ) → n < length l → take n l ≡ tabulate n entry
+      → take (n + 1) (set l n (entry n)) ≡ tabulate (n + 1) entry
   unfolding tabulate
   tabulate-more n l h e = rw add-one (take-suc-set l n (entry n) h ∙ ap (λ (t : List ℕ). t ++ (entry n ∷ [])) e)
 

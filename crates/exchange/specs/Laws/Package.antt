@@ -109,16 +109,14 @@ module _ (c : Central) (w : Wide c) where
       ext-getD 0 (tabulate 24 (registerIn (coded c))) (c .registers) (t ∙ sym l)
       (λ i h. getD-tabulate (registerIn (coded c)) 24 i (omega arith) ∙ register-back i (omega arith))
 
-record-path : {p ra fl em stop p′ ra′ fl′ em′ : ℕ} {registers registers′ : List ℕ} → p ≡ p′ → ra ≡ ra′ → fl ≡ fl′ → em ≡ em′ → registers ≡ registers′
-    → _≡_ {A = Central} (record { p = p; ra = ra; fl = fl; em = em; registers = registers; stop = stop })
-    (record { p = p′; ra = ra′; fl = fl′; em = em′; registers = registers′; stop = stop })
-record-path {stop = stop} ep er ef ee es = λ i. record { p = ep i; ra = er i; fl = ef i; em = ee i; registers = es i; stop = stop }
+record-path : (c d : Central) → c .p ≡ d .p → c .ra ≡ d .ra → c .fl ≡ d .fl → c .em ≡ d .em → c .registers ≡ d .registers → running c ≡ running d
+record-path c d p ra fl em registers = λ i. record { p = p i; ra = ra i; fl = fl i; em = em i; registers = registers i; stop = 0 }
 
 -- a record that goes into a package comes back, with the processor running
 pub decoded-coded : (c : Central) → Wide c → length (c .registers) ≡ 24 → decoded (coded c) ≡ running c
 unfolding decoded
 decoded-coded c w l =
-    record-path
+    record-path (decoded (coded c)) c
     (control-back c w 0 (lit< tt))
     (control-back c w 1 (lit< tt))
     (control-back c w 2 (lit< tt))

@@ -27,7 +27,9 @@ use Rattle.exchange.specs.Record.{
 use Rattle.exchange.specs.Laws.Indexed.{both, all-at, all-of}
 
 -- what holds of the places of A, of B and of X holds of each of the 24 places
-pub each-register : (P : ℕ → Type 0) → ((n : ℕ) → n < 8 → P n) → ((n : ℕ) → n < 8 → P (8 + n)) → ((n : ℕ) → n < 8 → P (16 + n)) → (i : ℕ) → i < 24 → P i
+pub each-register : (P : ℕ → Type 0)
+    → ((n : ℕ) → n < 8 → P n) → ((n : ℕ) → n < 8 → P (8 + n)) → ((n : ℕ) → n < 8 → P (16 + n))
+    → (i : ℕ) → i < 24 → P i
 each-register P a b x i h =
     ⊎-elim
     (λ g. let e : 16 + (i - 16) ≡ i = omega arith in subst P e (x (i - 16) (omega arith)))
@@ -77,7 +79,8 @@ fits n c h =
             ra-width = ltb-true (c .ra) (2 ^ 18) (h₁ .1);
             fl-width = ltb-true (c .fl) (2 ^ 18) (h₂ .1);
             em-fits = h₆ .1;
-            register-width = λ i l. ltb-true (getD (c .registers) i 0) (2 ^ registerWidth i) (all-at (registerFits (c .registers)) 24 (h₇ .1) i l);
+            register-width =
+                λ i l. ltb-true (getD (c .registers) i 0) (2 ^ registerWidth i) (all-at (registerFits (c .registers)) 24 (h₇ .1) i l);
             b0-zero = eqb-true (bOf c 0) 0 (h₅ .1);
           };
       field = leb-true (c .ra + c .fl) n (h₃ .1);

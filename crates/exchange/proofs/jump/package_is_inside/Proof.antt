@@ -16,7 +16,10 @@ returns-2 : tie.Need-returns-2
 returns-2 c =
     let n = c .before .args .length in
     let at = c .before .args .at in
-    ⊎-elim (λ h. rw (le-leb at (n - 16) h, le-leb (at + 16) n (omega arith))) (λ h. rw (lt-leb at (n - 16) h, lt-leb (at + 16) n (omega arith))) (le-or-lt at (n - 16))
+    ⊎-elim
+    (λ h. rw (le-leb at (n - 16) h, le-leb (at + 16) n (omega arith)))
+    (λ h. rw (lt-leb at (n - 16) h, lt-leb (at + 16) n (omega arith)))
+    (le-or-lt at (n - 16))
 
 pub package-is-inside-spec : {M : Type 1} → statement M
 package-is-inside-spec = tie.close (tie.spec returns returns-2)

@@ -16,7 +16,8 @@ package-is-inside-requires c κs = search needs
 
 has-stray-requires : tie.Need-has-stray-requires
 has-stray-requires c κs =
-    leb-true (c .before .before .before .args .at + 16) (length (c .before .before .before .args .m .now)) (sym (c .before .package-is-inside .ensures) ∙ c .if1 .taken)
+    let a = c .before .before .before .args in
+    leb-true (a .at + 16) (length (a .m .now)) (sym (c .before .package-is-inside .ensures) ∙ c .if1 .taken)
 
 returns : tie.Need-returns
 unfolding packageVerdict
@@ -28,11 +29,13 @@ returns c =
 
 load-requires : tie.Need-load-requires
 load-requires c κs =
-    leb-true (c .before .before .before .before .before .args .at + 16) (length (c .before .before .before .before .before .args .m .now)) (sym (c .before .before .before .package-is-inside .ensures) ∙ c .before .before .if1 .taken)
+    let a = c .before .before .before .before .before .args in
+    leb-true (a .at + 16) (length (a .m .now)) (sym (c .before .before .before .package-is-inside .ensures) ∙ c .before .before .if1 .taken)
 
 add-if3 : tie.Need-add-if3
 add-if3 c =
-    let width = rw (← c .before .load .ensures) at (field-width (part (c .before .before .before .before .before .before .before .args .m .now) (c .before .before .before .before .before .before .before .args .at) 16)) in
+    let a = c .before .before .before .before .before .before .before .args in
+    let width = rw (← c .before .load .ensures) at (field-width (part (a .m .now) (a .at) 16)) in
     omega arith
 
 returns-2 : tie.Need-returns-2

@@ -36,17 +36,19 @@ loop-less c = omega arith
 
 loop-again : tie.Need-loop-again Inv-loop μ-loop
 loop-again c =
+    let w = c .before .before .before .before .args .w .now in
     let l = c .before .before .loop in (
       omega arith,
-      rw (c .register-in .ensures) (tabulate-more (registerIn (c .before .before .before .before .args .w .now)) (l .i) (l .registers) (omega arith) (l .inv .1)),
+      rw (c .register-in .ensures) (tabulate-more (registerIn w) (l .i) (l .registers) (omega arith) (l .inv .1)),
       simp length-set (l .inv .2),
     )
 
 returns : tie.Need-returns Inv-loop μ-loop
 returns c =
+    let w = c .before .before .before .args .w .now in
     let l = c .before .loop in
     let e : l .i ≡ 24 = omega arith in
-    tabulate-all (registerIn (c .before .before .before .args .w .now)) 24 (l .registers) (l .inv .2) (rw e at (l .inv .1))
+    tabulate-all (registerIn w) 24 (l .registers) (l .inv .2) (rw e at (l .inv .1))
 
 pub registers-in-spec : {M : Type 1} → statement M
 registers-in-spec =

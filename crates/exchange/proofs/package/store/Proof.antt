@@ -36,9 +36,10 @@ loop-less c = omega arith
 
 loop-again : tie.Need-loop-again Inv-loop μ-loop
 loop-again c =
+    let r = c .before .before .before .before .args .c in
     let l = c .before .before .loop in (
       omega arith,
-      rw (c .package-word .ensures) (tabulate-more (packageWord (c .before .before .before .before .args .c)) (l .n) (l .w) (omega arith) (l .inv .1)),
+      rw (c .package-word .ensures) (tabulate-more (packageWord r) (l .n) (l .w) (omega arith) (l .inv .1)),
       simp length-set (l .inv .2),
     )
 
@@ -48,9 +49,10 @@ same-length c = c .before .loop .inv .2 ∙ sym (c .before .before .before .pre 
 returns : tie.Need-returns Inv-loop μ-loop
 unfolding coded
 returns c =
+    let r = c .before .before .before .args .c in
     let l = c .before .loop in
     let e : l .n ≡ 16 = omega arith in
-    tabulate-all (packageWord (c .before .before .before .args .c)) 16 (l .w) (l .inv .2) (rw e at (l .inv .1))
+    tabulate-all (packageWord r) 16 (l .w) (l .inv .2) (rw e at (l .inv .1))
 
 pub store-spec : {M : Type 1} → statement M
 store-spec =

@@ -1,7 +1,7 @@
 -- `exchange::package::words_are_clean` meets its contract. Assumes nothing.
 use mathlib.Core.Bool.{true}
 use mathlib.Core.Path.{_≡_, refl, sym}
-use Prim.Native.Nat.{_≤_, _-_, _^_}
+use Prim.Native.Nat.{_≤_, _<_, _-_, _^_}
 use native.Mathlib.Omega.{arith}
 use borrow.Author.Needs.{needs}
 use borrow.Author.Tests.{lt-ltb, le-ltb}
@@ -35,7 +35,8 @@ returns : tie.Need-returns Inv-loop μ-loop
 returns c =
     let w = c .before .before .before .before .before .before .args .w .now in
     let n = c .before .before .before .before .loop .n in
-    sym (all-not (wordIsClean w) 8 n (c .before .before .before .loop-test .taken) (le-ltb (getD w n 0) (2 ^ cleanBits n) (rw (c .before .before .clean-limit .ensures) at (c .if1 .taken))))
+    let stray : 2 ^ cleanBits n ≤ getD w n 0 = rw (c .before .before .clean-limit .ensures) at (c .if1 .taken) in
+    sym (all-not (wordIsClean w) 8 n (c .before .before .before .loop-test .taken) (le-ltb (getD w n 0) (2 ^ cleanBits n) stray))
 
 add-n : tie.Need-add-n Inv-loop μ-loop
 add-n c = omega arith
@@ -46,9 +47,10 @@ loop-less c = omega arith
 loop-again : tie.Need-loop-again Inv-loop μ-loop
 loop-again c =
     let w = c .before .before .before .before .before .before .args .w .now in
-    let n = c .before .before .before .before .loop .n in (
+    let n = c .before .before .before .before .loop .n in
+    let fits : getD w n 0 < 2 ^ cleanBits n = rw (c .before .before .clean-limit .ensures) at (c .if1 .left) in (
       omega arith,
-      all-more (wordIsClean w) n (c .before .before .before .before .loop .inv .1) (lt-ltb (getD w n 0) (2 ^ cleanBits n) (rw (c .before .before .clean-limit .ensures) at (c .if1 .left))),
+      all-more (wordIsClean w) n (c .before .before .before .before .loop .inv .1) (lt-ltb (getD w n 0) (2 ^ cleanBits n) fits),
     )
 
 returns-2 : tie.Need-returns-2 Inv-loop μ-loop

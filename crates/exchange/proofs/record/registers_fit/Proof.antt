@@ -1,7 +1,7 @@
 -- `exchange::record::registers_fit` meets its contract. Assumes nothing.
 use mathlib.Core.Bool.{true}
 use mathlib.Core.Path.{_≡_, refl, sym}
-use Prim.Native.Nat.{_≤_, _-_, _^_}
+use Prim.Native.Nat.{_≤_, _<_, _-_, _^_}
 use native.Mathlib.Omega.{arith}
 use borrow.Author.Needs.{needs}
 use borrow.Author.Tests.{lt-ltb, le-ltb}
@@ -36,7 +36,8 @@ unfolding registersFit
 returns c =
     let r = c .before .before .before .before .args .t1 in
     let i = c .before .before .before .loop .i in
-    sym (all-not (registerFits r) 24 i (c .before .before .loop-test .taken) (le-ltb (getD r i 0) (2 ^ registerWidth i) (rw (c .before .register-limit .ensures) at (c .if1 .taken))))
+    let wide : 2 ^ registerWidth i ≤ getD r i 0 = rw (c .before .register-limit .ensures) at (c .if1 .taken) in
+    sym (all-not (registerFits r) 24 i (c .before .before .loop-test .taken) (le-ltb (getD r i 0) (2 ^ registerWidth i) wide))
 
 add-i : tie.Need-add-i Inv-loop μ-loop
 add-i c = omega arith
@@ -47,9 +48,10 @@ loop-less c = omega arith
 loop-again : tie.Need-loop-again Inv-loop μ-loop
 loop-again c =
     let r = c .before .before .before .before .args .t1 in
-    let i = c .before .before .before .loop .i in (
+    let i = c .before .before .before .loop .i in
+    let fits : getD r i 0 < 2 ^ registerWidth i = rw (c .before .register-limit .ensures) at (c .if1 .left) in (
       omega arith,
-      all-more (registerFits r) i (c .before .before .before .loop .inv .1) (lt-ltb (getD r i 0) (2 ^ registerWidth i) (rw (c .before .register-limit .ensures) at (c .if1 .left))),
+      all-more (registerFits r) i (c .before .before .before .loop .inv .1) (lt-ltb (getD r i 0) (2 ^ registerWidth i) fits),
     )
 
 returns-2 : tie.Need-returns-2 Inv-loop μ-loop
