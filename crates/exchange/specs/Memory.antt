@@ -1,7 +1,7 @@
 -- Parts of a list of words. Assumes nothing.
 use Prim.Native.Nat.{ℕ}
 use mathlib.Core.List.{List, _++_}
-use lib.ListN.{length, take, drop}
+use lib.ListN.{take, drop}
 
 -- the n words from a up
 abbrev pub part : List ℕ → ℕ → ℕ → List ℕ

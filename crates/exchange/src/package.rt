@@ -118,10 +118,9 @@ fn clean_limit(n: usize) -> u64
     ensures { λ r. ⌜ r ≡ 2 ^ cleanBits n ⌝ }
 {
     if n < 4 {
-        0o1000000000000000000
-    } else {
-        0o1000000000000
+        return 0o1000000000000000000;
     }
+    0o1000000000000
 }
 
 // No bit is set above P, RA, FL and EM in words 0 to 3, and none above A in words 4 to 7.

@@ -29,10 +29,9 @@ fn register_limit(i: usize) -> u64
     ensures { λ r. ⌜ r ≡ 2 ^ registerWidth i ⌝ }
 {
     if i < 16 {
-        0o1000000
-    } else {
-        0o100000000000000000000
+        return 0o1000000;
     }
+    0o100000000000000000000
 }
 
 // Each register has its width.

@@ -1,39 +1,19 @@
 -- What an exchange jump keeps, and that a second one undoes it. Assumes nothing.
 use mathlib.Core.Bool.{true, false}
 use mathlib.Core.List.{List}
-use mathlib.Core.Path.{_≡_, sym, ap, ap₂, _∙_}
+use mathlib.Core.Path.{_≡_, ap₂, _∙_}
 use Prim.Native.Nat.{ℕ, _+_, _^_, _≤_, _<_}
-use native.Mathlib.Omega.{arith}
-use lib.Dec.{lit<}
 use lib.ListN.{length, getD}
 use Rattle.outcome.specs.declared.refusal.Verdict.the-variants as Call
 use Rattle.exchange.specs.declared.record.Central.{Central}
 use Rattle.exchange.specs.Record.{recordFits, wordsFit, running, Wide, hostVerdict}
 use Rattle.exchange.specs.Memory.{part, splice}
-use Rattle.exchange.specs.Package.{coded, decoded, hasStray}
-use Rattle.exchange.specs.Jump.{recordAt, packageVerdict, Exchanged, exchangedTo, exchanged}
+use Rattle.exchange.specs.Package.{coded, hasStray}
+use Rattle.exchange.specs.Jump.{recordAt, packageVerdict, exchangedTo, exchanged}
 use Rattle.exchange.specs.Laws.Record.{fits, word-width, of-word-width}
-use Rattle.exchange.specs.Laws.Memory.{
-  part-lt,
-  length-part,
-  splice-part,
-  length-splice,
-  part-splice,
-  splice-splice,
-  word-below,
-  word-above,
-  splice-lt,
-}
-use Rattle.exchange.specs.Laws.Package.{
-  length-coded,
-  decoded-coded,
-  coded-decoded,
-  clean,
-  decoded-fits,
-  coded-clean,
-  coded-lt,
-}
-use Rattle.exchange.specs.Laws.Verdicts.{Lent, Ready, lent, of-lent, ready, of-ready}
+use Rattle.exchange.specs.Laws.Memory.{part-lt, length-part, splice-part, length-splice, part-splice, splice-splice, word-below, word-above, splice-lt}
+use Rattle.exchange.specs.Laws.Package.{length-coded, decoded-coded, coded-decoded, clean, decoded-fits, coded-clean, coded-lt}
+use Rattle.exchange.specs.Laws.Verdicts.{lent, of-lent, ready, of-ready}
 
 module _ (m : List ℕ) (c : Central) (at : ℕ) (inside : at + 16 ≤ length m) where
   pub exchange-length : length (exchanged m c at .memory) ≡ length m

@@ -1,13 +1,13 @@
 -- A record that goes into a package comes back from it, and a package without stray bits comes back from its record. Assumes nothing.
-use mathlib.Core.Bool.{Bool, true, false, not, _&&_}
+use mathlib.Core.Bool.{true, false, _&&_}
 use mathlib.Core.List.{List}
 use mathlib.Core.Logic.{⊎-elim}
-use mathlib.Core.Path.{_≡_, refl, sym, ap, _∙_}
+use mathlib.Core.Path.{_≡_, refl, sym, _∙_}
 use Prim.Native.Nat.{ℕ, zero, suc, _+_, _-_, _*_, _/_, _^_, _≤_, _<_}
 use native.Mathlib.Nat.{add-sub-cancel-left}
 use native.Mathlib.Omega.{arith}
 use borrow.Author.Tests.{ltb-true, eqb-true, lt-ltb, le-ltb, eq-eqb, not-false}
-use lib.Dec.{ltb, eqb, lit<}
+use lib.Dec.{eqb, lit<}
 use lib.ListN.{length, getD, List·getD-eq-default}
 use lib.Pow.{shr-mod}
 use lib.Seq.{ext-getD}
@@ -17,19 +17,9 @@ use Rattle.word.specs.Laws.Choice.{of-getD, le-or-lt}
 use Rattle.exchange.specs.declared.record.Central.{Central}
 use Rattle.exchange.specs.Indexed.{all, tabulate}
 use Rattle.exchange.specs.Record.{aOf, bOf, xOf, emFits, registerWidth, recordFits, running, Wide}
-use Rattle.exchange.specs.Package.{
-  controls,
-  packageWord,
-  coded,
-  registerIn,
-  controlIn,
-  decoded,
-  cleanBits,
-  wordIsClean,
-  hasStray,
-}
+use Rattle.exchange.specs.Package.{controls, packageWord, coded, registerIn, controlIn, decoded, cleanBits, wordIsClean, hasStray}
 use Rattle.exchange.specs.Laws.Indexed.{both, all-at, all-of, length-tabulate, getD-tabulate}
-use Rattle.exchange.specs.Laws.Record.{Fits, each-register, em-width, a-width, b-width, x-width, of-fits}
+use Rattle.exchange.specs.Laws.Record.{each-register, em-width, a-width, b-width, x-width, of-fits}
 
 pub control-width : (c : Central) → Wide c → (n : ℕ) → getD (controls c) n 0 < 2 ^ 18
 control-width c w n =

@@ -1,5 +1,5 @@
 -- What the tests of a record and of a memory say of each value. Assumes nothing.
-use mathlib.Core.Bool.{Bool, true, false, _&&_}
+use mathlib.Core.Bool.{true, _&&_}
 use mathlib.Core.List.{List}
 use mathlib.Core.Logic.{⊎-elim}
 use mathlib.Core.Path.{_≡_, subst}
@@ -11,19 +11,7 @@ use lib.ListN.{length, getD, List·getD-eq-default}
 use Rattle.word.specs.Bits.{bits}
 use Rattle.word.specs.Laws.Choice.{le-or-lt}
 use Rattle.exchange.specs.declared.record.Central.{Central}
-use Rattle.exchange.specs.Record.{
-  aOf,
-  bOf,
-  xOf,
-  emFits,
-  registerWidth,
-  registerFits,
-  registersFit,
-  recordFits,
-  Wide,
-  wordFits,
-  wordsFit,
-}
+use Rattle.exchange.specs.Record.{aOf, bOf, xOf, emFits, registerWidth, registerFits, registersFit, recordFits, Wide, wordFits, wordsFit}
 use Rattle.exchange.specs.Laws.Indexed.{both, all-at, all-of}
 
 -- what holds of the places of A, of B and of X holds of each of the 24 places
