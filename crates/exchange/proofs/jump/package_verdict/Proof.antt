@@ -1,0 +1,76 @@
+-- `exchange::jump::package_verdict` meets its contract. Assumes nothing.
+use mathlib.Core.Path.{sym, _∙_}
+use Prim.Native.Nat.{_+_}
+use native.Mathlib.Omega.{arith}
+use borrow.Author.Tests.{leb-true, le-leb, lt-leb}
+use borrow.Author.Needs.{needs}
+use lib.ListN.{length}
+use Rattle.exchange.specs.Memory.{part}
+use Rattle.exchange.specs.Jump.{packageVerdict}
+use Rattle.exchange.specs.Laws.Package.{field-width}
+use Rattle.exchange.proofs.jump.package_verdict.Statement.{statement}
+use Rattle.exchange.proofs.jump.package_verdict.Tie as tie
+
+package-is-inside-requires : tie.Need-package-is-inside-requires
+package-is-inside-requires c κs = search needs
+
+has-stray-requires : tie.Need-has-stray-requires
+has-stray-requires c κs =
+    let a = c .before .before .before .args in
+    leb-true (a .at + 16) (length (a .m .now)) (sym (c .before .package-is-inside .ensures) ∙ c .if1 .taken)
+
+returns : tie.Need-returns
+unfolding packageVerdict
+returns c =
+    rw (
+      sym (c .before .before .before .package-is-inside .ensures) ∙ c .before .before .if1 .taken,
+      sym (c .before .has-stray .ensures) ∙ c .if2 .taken,
+    )
+
+load-requires : tie.Need-load-requires
+load-requires c κs =
+    let a = c .before .before .before .before .before .args in
+    leb-true (a .at + 16) (length (a .m .now)) (sym (c .before .before .before .package-is-inside .ensures) ∙ c .before .before .if1 .taken)
+
+add-if3 : tie.Need-add-if3
+add-if3 c =
+    let a = c .before .before .before .before .before .before .before .args in
+    let width = rw (← c .before .load .ensures) at (field-width (part (a .m .now) (a .at) 16)) in
+    omega arith
+
+returns-2 : tie.Need-returns-2
+unfolding packageVerdict
+returns-2 c =
+    rw (
+      sym (c .before .before .before .before .before .before .package-is-inside .ensures) ∙ c .before .before .before .before .before .if1 .taken,
+      sym (c .before .before .before .before .has-stray .ensures) ∙ c .before .before .before .if2 .left,
+      ← c .before .before .load .ensures,
+      lt-leb _ _ (c .if3 .taken),
+    )
+
+returns-3 : tie.Need-returns-3
+unfolding packageVerdict
+returns-3 c =
+    rw (
+      sym (c .before .before .before .before .before .before .package-is-inside .ensures) ∙ c .before .before .before .before .before .if1 .taken,
+      sym (c .before .before .before .before .has-stray .ensures) ∙ c .before .before .before .if2 .left,
+      ← c .before .before .load .ensures,
+      le-leb _ _ (c .if3 .left),
+    )
+
+returns-4 : tie.Need-returns-4
+unfolding packageVerdict
+returns-4 c = rw (sym (c .before .package-is-inside .ensures) ∙ c .if1 .left)
+
+pub package-verdict-spec : {M : Type 1} → statement M
+package-verdict-spec =
+    tie.close
+    (tie.spec
+    package-is-inside-requires
+    has-stray-requires
+    returns
+    load-requires
+    add-if3
+    returns-2
+    returns-3
+    returns-4)

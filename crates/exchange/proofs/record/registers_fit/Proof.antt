@@ -1,0 +1,77 @@
+-- `exchange::record::registers_fit` meets its contract. Assumes nothing.
+use mathlib.Core.Bool.{true}
+use mathlib.Core.Path.{_≡_, refl, sym}
+use Prim.Native.Nat.{_≤_, _<_, _-_, _^_}
+use native.Mathlib.Omega.{arith}
+use borrow.Author.Needs.{needs}
+use borrow.Author.Tests.{lt-ltb, le-ltb}
+use lib.ListN.{getD}
+use Rattle.exchange.specs.Indexed.{all}
+use Rattle.exchange.specs.Record.{registerWidth, registerFits, registersFit}
+use Rattle.exchange.specs.Laws.Indexed.{all-more, all-not}
+use Rattle.exchange.proofs.record.registers_fit.Statement.{statement}
+use Rattle.exchange.proofs.record.registers_fit.Tie as tie
+
+abbrev Inv-loop : tie.InvT-loop
+Inv-loop registers i₀ i = (i ≤ 24) × (all i (registerFits registers) ≡ true)
+
+abbrev μ-loop : tie.MeasureT-loop
+μ-loop registers i₀ i = 24 - i
+
+loop-holds : tie.Need-loop-holds Inv-loop μ-loop
+unfolding all
+loop-holds c = (omega arith, refl)
+
+register-limit-requires : tie.Need-register-limit-requires Inv-loop μ-loop
+register-limit-requires c κs = search needs
+
+mul-if1 : tie.Need-mul-if1 Inv-loop μ-loop
+mul-if1 c = omega arith
+
+array-read-if1 : tie.Need-array-read-if1 Inv-loop μ-loop
+array-read-if1 c = omega arith
+
+returns : tie.Need-returns Inv-loop μ-loop
+unfolding registersFit
+returns c =
+    let r = c .before .before .before .before .args .t1 in
+    let i = c .before .before .before .loop .i in
+    let wide : 2 ^ registerWidth i ≤ getD r i 0 = rw (c .before .register-limit .ensures) at (c .if1 .taken) in
+    sym (all-not (registerFits r) 24 i (c .before .before .loop-test .taken) (le-ltb (getD r i 0) (2 ^ registerWidth i) wide))
+
+add-i : tie.Need-add-i Inv-loop μ-loop
+add-i c = omega arith
+
+loop-less : tie.Need-loop-less Inv-loop μ-loop
+loop-less c = omega arith
+
+loop-again : tie.Need-loop-again Inv-loop μ-loop
+loop-again c =
+    let r = c .before .before .before .before .args .t1 in
+    let i = c .before .before .before .loop .i in
+    let fits : getD r i 0 < 2 ^ registerWidth i = rw (c .before .register-limit .ensures) at (c .if1 .left) in (
+      omega arith,
+      all-more (registerFits r) i (c .before .before .before .loop .inv .1) (lt-ltb (getD r i 0) (2 ^ registerWidth i) fits),
+    )
+
+returns-2 : tie.Need-returns-2 Inv-loop μ-loop
+unfolding registersFit
+returns-2 c =
+    let e : c .before .loop .i ≡ 24 = omega arith in
+    sym (rw e at (c .before .loop .inv .1))
+
+pub registers-fit-spec : {M : Type 1} → statement M
+registers-fit-spec =
+    tie.close
+    (tie.spec
+    Inv-loop
+    μ-loop
+    loop-holds
+    register-limit-requires
+    mul-if1
+    array-read-if1
+    returns
+    add-i
+    loop-less
+    loop-again
+    returns-2)

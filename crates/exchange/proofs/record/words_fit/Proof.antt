@@ -1,0 +1,70 @@
+-- `exchange::record::words_fit` meets its contract. Assumes nothing.
+use mathlib.Core.Bool.{true}
+use mathlib.Core.Path.{_≡_, refl, sym}
+use Prim.Native.Nat.{_≤_, _-_, _^_}
+use native.Mathlib.Omega.{arith}
+use borrow.Author.Needs.{needs}
+use borrow.Author.Tests.{lt-ltb, le-ltb}
+use lib.ListN.{getD, length}
+use Rattle.exchange.specs.Indexed.{all}
+use Rattle.exchange.specs.Record.{wordFits, wordsFit}
+use Rattle.exchange.specs.Laws.Indexed.{all-more, all-not}
+use Rattle.exchange.proofs.record.words_fit.Statement.{statement}
+use Rattle.exchange.proofs.record.words_fit.Tie as tie
+
+abbrev Inv-loop : tie.InvT-loop
+Inv-loop m i₀ i = (i ≤ length m) × (all i (wordFits m) ≡ true)
+
+abbrev μ-loop : tie.MeasureT-loop
+μ-loop m i₀ i = length m - i
+
+loop-holds : tie.Need-loop-holds Inv-loop μ-loop
+unfolding all
+loop-holds c = (omega arith, refl)
+
+mul-if1 : tie.Need-mul-if1 Inv-loop μ-loop
+mul-if1 c = search needs
+
+shared-slice-read-if1 : tie.Need-shared-slice-read-if1 Inv-loop μ-loop
+shared-slice-read-if1 c = search needs
+
+returns : tie.Need-returns Inv-loop μ-loop
+unfolding wordsFit
+returns c =
+    let m = c .before .before .before .before .args .m .now in
+    let i = c .before .before .before .loop .i in
+    sym (all-not (wordFits m) (length m) i (c .before .before .loop-test .taken) (le-ltb (getD m i 0) (2 ^ 60) (omega arith)))
+
+add-i : tie.Need-add-i Inv-loop μ-loop
+add-i c = omega arith
+
+loop-less : tie.Need-loop-less Inv-loop μ-loop
+loop-less c = omega arith
+
+loop-again : tie.Need-loop-again Inv-loop μ-loop
+loop-again c =
+    let m = c .before .before .before .before .args .m .now in
+    let i = c .before .before .before .loop .i in
+    (omega arith, all-more (wordFits m) i (c .before .before .before .loop .inv .1) (lt-ltb (getD m i 0) (2 ^ 60) (omega arith)))
+
+returns-2 : tie.Need-returns-2 Inv-loop μ-loop
+unfolding wordsFit
+returns-2 c =
+    let m = c .before .before .args .m .now in
+    let e : c .before .loop .i ≡ length m = omega arith in
+    sym (rw e at (c .before .loop .inv .1))
+
+pub words-fit-spec : {M : Type 1} → statement M
+words-fit-spec =
+    tie.close
+    (tie.spec
+    Inv-loop
+    μ-loop
+    loop-holds
+    mul-if1
+    shared-slice-read-if1
+    returns
+    add-i
+    loop-less
+    loop-again
+    returns-2)

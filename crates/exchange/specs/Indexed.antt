@@ -1,0 +1,14 @@
+-- A test of every number below n, and a list by its entries. Assumes nothing.
+use Prim.Native.Nat.{ℕ, zero, suc}
+use mathlib.Core.Bool.{Bool, true, _&&_}
+use mathlib.Core.List.{List, [], _∷_, _++_}
+
+-- the test holds of each number below n
+unfoldable pub all : ℕ → (ℕ → Bool) → Bool
+all zero test = true
+all (suc n) test = all n test && test n
+
+-- the entries 0 to n - 1
+unfoldable pub tabulate : ℕ → (ℕ → ℕ) → List ℕ
+tabulate zero entry = []
+tabulate (suc n) entry = tabulate n entry ++ (entry n ∷ [])

@@ -1,0 +1,36 @@
+-- The exchange jump, by document 01, "Memory and records" and "Who can be turned down". Assumes nothing.
+use Prim.Native.Nat.{ℕ, _+_}
+use mathlib.Core.Bool.{cond}
+use mathlib.Core.List.{List}
+use lib.Dec.{leb}
+use lib.ListN.{length}
+use Rattle.outcome.specs.declared.refusal.Refusal.the-variants as Refusal
+use Rattle.outcome.specs.declared.refusal.Verdict.{Verdict}
+use Rattle.outcome.specs.declared.refusal.Verdict.the-variants as Call
+use Rattle.exchange.specs.declared.record.Central.{Central}
+use Rattle.exchange.specs.Memory.{part, splice}
+use Rattle.exchange.specs.Package.{coded, decoded, hasStray}
+
+-- the record of the package at an address
+abbrev pub recordAt : List ℕ → ℕ → Central
+recordAt m at = decoded (part m at 16)
+
+-- "9 package past the end; 10 stray bits; 11 RA + FL past the end", lowest first
+unfoldable pub packageVerdict : List ℕ → ℕ → Verdict
+packageVerdict m at =
+    cond (leb (at + 16) (length m))
+    (cond (hasStray (part m at 16)) (Call.Refused Refusal.StrayBits)
+    (cond (leb (recordAt m at .ra + recordAt m at .fl) (length m)) Call.Accepted (Call.Refused Refusal.FieldPastEnd)))
+    (Call.Refused Refusal.PackagePastEnd)
+
+-- memory and record after an exchange jump
+pub record Exchanged : Type 0 where
+  pub memory : List ℕ
+  pub central : Central
+
+abbrev pub exchangedTo : List ℕ → Central → Exchanged
+exchangedTo m c = record { memory = m; central = c }
+
+-- "An exchange jump swaps package and registers and sets the central processor running, whether it was stopped or not."
+unfoldable pub exchanged : List ℕ → Central → ℕ → Exchanged
+exchanged m c at = exchangedTo (splice m at 16 (coded c)) (recordAt m at)

@@ -1,0 +1,96 @@
+-- What an exchange jump keeps, and that a second one undoes it. Assumes nothing.
+use mathlib.Core.Bool.{true, false}
+use mathlib.Core.List.{List}
+use mathlib.Core.Path.{_≡_, ap₂, _∙_}
+use Prim.Native.Nat.{ℕ, _+_, _^_, _≤_, _<_}
+use lib.ListN.{length, getD}
+use Rattle.outcome.specs.declared.refusal.Verdict.the-variants as Call
+use Rattle.exchange.specs.declared.record.Central.{Central}
+use Rattle.exchange.specs.Record.{recordFits, wordsFit, running, Wide, hostVerdict}
+use Rattle.exchange.specs.Memory.{part, splice}
+use Rattle.exchange.specs.Package.{coded, hasStray}
+use Rattle.exchange.specs.Jump.{recordAt, packageVerdict, exchangedTo, exchanged}
+use Rattle.exchange.specs.Laws.Record.{fits, word-width, of-word-width}
+use Rattle.exchange.specs.Laws.Memory.{part-lt, length-part, splice-part, length-splice, part-splice, splice-splice, word-below, word-above, splice-lt}
+use Rattle.exchange.specs.Laws.Package.{length-coded, decoded-coded, coded-decoded, clean, decoded-fits, coded-clean, coded-lt}
+use Rattle.exchange.specs.Laws.Verdicts.{lent, of-lent, ready, of-ready}
+
+module _ (m : List ℕ) (c : Central) (at : ℕ) (inside : at + 16 ≤ length m) where
+  pub exchange-length : length (exchanged m c at .memory) ≡ length m
+  unfolding exchanged
+  exchange-length = length-splice m at 16 (coded c) inside (length-coded c)
+
+  -- the package holds the record that was exchanged out
+  pub exchange-package : part (exchanged m c at .memory) at 16 ≡ coded c
+  unfolding exchanged
+  exchange-package = part-splice m at 16 (coded c) inside (length-coded c)
+
+  -- words outside the package keep their values
+  pub exchange-below : (i : ℕ) → i < at → getD (exchanged m c at .memory) i 0 ≡ getD m i 0
+  unfolding exchanged
+  exchange-below = word-below m at 16 (coded c) inside (length-coded c)
+
+  pub exchange-above : (i : ℕ) → at + 16 ≤ i → getD (exchanged m c at .memory) i 0 ≡ getD m i 0
+  unfolding exchanged
+  exchange-above = word-above m at 16 (coded c) inside (length-coded c)
+
+  pub exchange-words : wordsFit m ≡ true → Wide c → wordsFit (exchanged m c at .memory) ≡ true
+  unfolding exchanged
+  exchange-words h w =
+      of-word-width (splice m at 16 (coded c))
+      (splice-lt m at 16 (coded c) inside (length-coded c) (2 ^ 60) (word-width m h) (coded-lt c w))
+
+  -- a second exchange at the same package gives memory and record back, with the processor running
+  pub exchange-back : Wide c → length (c .registers) ≡ 24 → hasStray (part m at 16) ≡ false
+      → exchanged (exchanged m c at .memory) (exchanged m c at .central) at ≡ exchangedTo m (running c)
+  unfolding exchanged
+  exchange-back w count h =
+      let long = length-coded c in
+      ap₂ exchangedTo
+      (splice-splice m at 16 (coded c) inside long (coded (recordAt m at))
+      ∙ rw (coded-decoded (part m at 16) (length-part m at 16 inside) h) (splice-part m at 16))
+      (rw (part-splice m at 16 (coded c) inside long) (decoded-coded c w count))
+
+-- the same, where nothing is refused
+module _ (m : List ℕ) (c : Central) (at : ℕ) (host : hostVerdict m c ≡ Call.Accepted) (owner : packageVerdict m at ≡ Call.Accepted) where
+  wide : Wide c
+  wide = fits (length m) c (lent m c host .fits) .wide
+
+  pub exchange-twice : length (c .registers) ≡ 24
+      → exchanged (exchanged m c at .memory) (exchanged m c at .central) at ≡ exchangedTo m (running c)
+  exchange-twice count = let r = ready m at owner in exchange-back m c at (r .inside) wide count (r .no-stray)
+
+  -- the record handed back fits
+  pub exchange-record : recordFits (length m) (exchanged m c at .central) ≡ true
+  unfolding exchanged
+  exchange-record =
+      let r = ready m at owner in
+      decoded-fits (part m at 16) (clean (part m at 16) (r .no-stray))
+      (part-lt m at 16 (2 ^ 60) (word-width m (lent m c host .words)))
+      (length m) (r .field)
+
+  -- what was accepted is accepted after the exchange
+  pub exchange-host : hostVerdict (exchanged m c at .memory) (exchanged m c at .central) ≡ Call.Accepted
+  exchange-host =
+      let l = lent m c host in
+      let inside = ready m at owner .inside in
+      let same = exchange-length m c at inside in
+      of-lent (exchanged m c at .memory) (exchanged m c at .central)
+      (record {
+        some = rw same (l .some);
+        most = rw same (l .most);
+        words = exchange-words m c at inside (l .words) wide;
+        fits = rw same exchange-record;
+      })
+
+  pub exchange-owner : length (c .registers) ≡ 24 → packageVerdict (exchanged m c at .memory) at ≡ Call.Accepted
+  exchange-owner count =
+      let inside = ready m at owner .inside in
+      let same = exchange-length m c at inside in
+      let stored = exchange-package m c at inside in
+      of-ready (exchanged m c at .memory) at
+      (record {
+        inside = rw same inside;
+        no-stray = rw stored (coded-clean c wide);
+        field = rw (stored, decoded-coded c wide count, same) (fits (length m) c (lent m c host .fits) .field);
+      })

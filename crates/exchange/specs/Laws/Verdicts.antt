@@ -1,0 +1,82 @@
+-- What an accepted memory, record and package are. Assumes nothing.
+use mathlib.Core.Bool.{Bool, true, false, _&&_, cond}
+use mathlib.Core.List.{List}
+use mathlib.Core.Path.{_≡_, refl}
+use Prim.Native.Nat.{ℕ, _+_, _≤_}
+use native.Mathlib.Omega.{arith}
+use borrow.Author.Tests.{leb-true, le-leb}
+use lib.Dec.{leb}
+use lib.ListN.{length}
+use Rattle.outcome.specs.declared.refusal.Refusal.{Refusal}
+use Rattle.outcome.specs.declared.refusal.Verdict.{Verdict}
+use Rattle.outcome.specs.declared.refusal.Verdict.the-variants as Call
+use Rattle.exchange.specs.declared.record.Central.{Central}
+use Rattle.exchange.specs.Record.{recordFits, wordsFit, hostVerdict}
+use Rattle.exchange.specs.Memory.{part}
+use Rattle.exchange.specs.Package.{hasStray}
+use Rattle.exchange.specs.Jump.{recordAt, packageVerdict}
+use Rattle.exchange.specs.Laws.Indexed.{both}
+
+-- accepted where a test passes
+by-test : (t : Bool) (v : Verdict) (r : Refusal) → cond t v (Call.Refused r) ≡ Call.Accepted → (t ≡ true) × (v ≡ Call.Accepted)
+by-test true v r e = (refl, e)
+by-test false v r e = let z : _≡_ {A = ℕ} 0 1 = cc in absurd (omega arith)
+
+-- accepted where a fault is not found
+by-fault : (t : Bool) (r : Refusal) (v : Verdict) → cond t (Call.Refused r) v ≡ Call.Accepted → (t ≡ false) × (v ≡ Call.Accepted)
+by-fault true r v e = let z : _≡_ {A = ℕ} 0 1 = cc in absurd (omega arith)
+by-fault false r v e = (refl, e)
+
+-- numbers 1, 3 and 5 do not refuse
+pub record Lent (m : List ℕ) (c : Central) : Type 0 where
+  pub some : 1 ≤ length m
+  pub most : length m ≤ 131072
+  pub words : wordsFit m ≡ true
+  pub fits : recordFits (length m) c ≡ true
+
+-- numbers 9, 10 and 11 do not refuse
+pub record Ready (m : List ℕ) (at : ℕ) : Type 0 where
+  pub inside : at + 16 ≤ length m
+  pub no-stray : hasStray (part m at 16) ≡ false
+  pub field : recordAt m at .ra + recordAt m at .fl ≤ length m
+
+module _ (m : List ℕ) (c : Central) where
+  pub lent : hostVerdict m c ≡ Call.Accepted → Lent m c
+  unfolding hostVerdict
+  lent e =
+      let t₁ = by-test (leb 1 (length m) && leb (length m) 131072) _ _ e in
+      let t₃ = by-test (wordsFit m) _ _ (t₁ .1) in
+      let t₅ = by-test (recordFits (length m) c) _ _ (t₃ .1) in
+      let b = both (leb 1 (length m)) (leb (length m) 131072) (t₁ .0) in
+      record {
+        some = leb-true 1 (length m) (b .0);
+        most = leb-true (length m) 131072 (b .1);
+        words = t₃ .0;
+        fits = t₅ .0;
+      }
+
+  pub of-lent : Lent m c → hostVerdict m c ≡ Call.Accepted
+  unfolding hostVerdict
+  of-lent l = rw (le-leb 1 (length m) (l .some), le-leb (length m) 131072 (l .most), l .words, l .fits)
+
+module _ (m : List ℕ) (at : ℕ) where
+  pub ready : packageVerdict m at ≡ Call.Accepted → Ready m at
+  unfolding packageVerdict
+  ready e =
+      let t₉ = by-test (leb (at + 16) (length m)) _ _ e in
+      let t₁₀ = by-fault (hasStray (part m at 16)) _ _ (t₉ .1) in
+      let t₁₁ = by-test (leb (recordAt m at .ra + recordAt m at .fl) (length m)) _ _ (t₁₀ .1) in
+      record {
+        inside = leb-true (at + 16) (length m) (t₉ .0);
+        no-stray = t₁₀ .0;
+        field = leb-true (recordAt m at .ra + recordAt m at .fl) (length m) (t₁₁ .0);
+      }
+
+  pub of-ready : Ready m at → packageVerdict m at ≡ Call.Accepted
+  unfolding packageVerdict
+  of-ready r =
+      rw (
+        le-leb (at + 16) (length m) (r .inside),
+        r .no-stray,
+        le-leb (recordAt m at .ra + recordAt m at .fl) (length m) (r .field),
+      )

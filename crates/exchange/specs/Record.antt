@@ -1,0 +1,83 @@
+-- The central record and the memory that the host lends, by document 01, "Memory and records" and "Who can be turned down". Assumes nothing.
+use Prim.Native.Nat.{ℕ, _+_, _*_, _^_, _<_}
+use mathlib.Core.Bool.{Bool, true, _&&_, cond}
+use mathlib.Core.List.{List}
+use mathlib.Core.Path.{_≡_}
+use lib.Dec.{ltb, leb, eqb}
+use lib.ListN.{length, getD}
+use Rattle.word.specs.Bits.{bits}
+use Rattle.outcome.specs.declared.refusal.Refusal.the-variants as Refusal
+use Rattle.outcome.specs.declared.refusal.Verdict.{Verdict}
+use Rattle.outcome.specs.declared.refusal.Verdict.the-variants as Call
+use Rattle.exchange.specs.declared.record.Central.{Central}
+use Rattle.exchange.specs.Indexed.{all}
+
+-- A0 to A7, B0 to B7 and X0 to X7 in the list of the 24 registers
+abbrev pub aOf : Central → ℕ → ℕ
+aOf c n = getD (c .registers) n 0
+
+abbrev pub bOf : Central → ℕ → ℕ
+bOf c n = getD (c .registers) (8 + n) 0
+
+abbrev pub xOf : Central → ℕ → ℕ
+xOf c n = getD (c .registers) (16 + n) 0
+
+-- the record with the processor running
+abbrev pub running : Central → Central
+running c = record { p = c .p; ra = c .ra; fl = c .fl; em = c .em; registers = c .registers; stop = 0 }
+
+-- "EM has the bits 010000 (address), 020000 and 040000": bits 12 to 14, and no other
+unfoldable pub emFits : ℕ → Bool
+emFits em = eqb em (bits em 12 3 * 2 ^ 12)
+
+-- A and B registers, which are the first 16 of the 24, "have 18 bits, X registers 60"
+abbrev pub registerWidth : ℕ → ℕ
+registerWidth i = cond (ltb i 16) 18 60
+
+abbrev pub registerFits : List ℕ → ℕ → Bool
+registerFits registers i = ltb (getD registers i 0) (2 ^ registerWidth i)
+
+unfoldable pub registersFit : List ℕ → Bool
+registersFit registers = all 24 (registerFits registers)
+
+-- 5 "record value over its width, a stop not listed for that processor, stray EM bit, nonzero B0, or RA + FL past the memory":
+-- none of these. P, RA and FL have 18 bits, the central stops are 1 to 5, and 0 is none.
+unfoldable pub recordFits : ℕ → Central → Bool
+recordFits length c =
+    ltb (c .p) (2 ^ 18)
+    && ltb (c .ra) (2 ^ 18)
+    && ltb (c .fl) (2 ^ 18)
+    && leb (c .ra + c .fl) length
+    && leb (c .stop) 5
+    && eqb (bOf c 0) 0
+    && emFits (c .em)
+    && registersFit (c .registers)
+
+-- the same without the stop and the length of memory: what is asked of a record that goes into a package
+pub record Wide (c : Central) : Type 0 where
+  pub p-width : c .p < 2 ^ 18
+  pub ra-width : c .ra < 2 ^ 18
+  pub fl-width : c .fl < 2 ^ 18
+  pub em-fits : emFits (c .em) ≡ true
+  pub register-width : (i : ℕ) → i < 24 → getD (c .registers) i 0 < 2 ^ registerWidth i
+  pub b0-zero : bOf c 0 ≡ 0
+
+-- "1 to 131,072 lent words"
+abbrev pub lengthFits : ℕ → Bool
+lengthFits n = leb 1 n && leb n 131072
+
+-- "words of 60 bits"
+abbrev pub wordFits : List ℕ → ℕ → Bool
+wordFits m i = ltb (getD m i 0) (2 ^ 60)
+
+unfoldable pub wordsFit : List ℕ → Bool
+wordsFit m = all (length m) (wordFits m)
+
+-- "1 central length", "3 central word over 60 bits", 5, lowest first
+unfoldable pub hostVerdict : List ℕ → Central → Verdict
+hostVerdict m c =
+    cond (lengthFits (length m))
+    (cond (wordsFit m)
+    (cond (recordFits (length m) c) Call.Accepted (Call.Refused Refusal.RecordValue))
+    (Call.Refused Refusal.CentralWord))
+    (Call.Refused Refusal.CentralLength)

@@ -1,0 +1,53 @@
+// The exchange jump, and the tests of its package: numbers 9, 10 and 11.
+use super::package::has_stray;
+use super::package::load;
+use super::package::store;
+use super::record::Central;
+use outcome::refusal::Refusal;
+use outcome::refusal::Verdict;
+ghost use mathlib.Core.Path.{_≡_};
+ghost use Prim.Native.Nat.{_+_, _≤_};
+ghost use lib.Dec.{leb};
+ghost use lib.ListN.{length};
+ghost use Rattle.exchange.specs.Record.{Wide};
+ghost use Rattle.exchange.specs.Jump.{packageVerdict, exchangedTo, exchanged};
+
+// The sixteen words from this address up are in a memory of this length. The address is any number, so 16 is not added to it.
+fn package_is_inside(length: u64, at: u64) -> bool
+    ensures { λ r. ⌜ r ≡ leb (at + 16) length ⌝ }
+{
+    if length < 16 {
+        return false;
+    }
+    at <= length - 16
+}
+
+// Numbers 9, 10 and 11 on the package at this address, lowest first.
+pub fn package_verdict(m: &[u64], at: u64) -> Verdict
+    ensures { λ r. ⌜ r ≡ packageVerdict (now (m .entry)) at ⌝ }
+{
+    let length = m.len() as u64;
+    if package_is_inside(length, at) {
+        let place = at as usize;
+        if has_stray(m, place) {
+            return Verdict::Refused(Refusal::StrayBits);
+        }
+        let c = load(m, place);
+        if length < c.ra + c.fl {
+            return Verdict::Refused(Refusal::FieldPastEnd);
+        }
+        return Verdict::Accepted;
+    }
+    Verdict::Refused(Refusal::PackagePastEnd)
+}
+
+// Swaps the record and the package at this address, and hands back the record that the package held.
+pub fn exchange_jump(m: &mut [u64], c: Central, at: usize) -> Central
+    requires { ⌜ (at + 16 ≤ length (now m)) × Wide c ⌝ }
+    ensures { λ r. ⌜ exchangedTo (now (m .exit)) r ≡ exchanged (now (m .entry)) c at ⌝ }
+{
+    let next = load(m, at);
+    let end = at + 16;
+    store(&mut m[at..end], c);
+    next
+}

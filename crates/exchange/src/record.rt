@@ -1,0 +1,113 @@
+// The central processor's record, and the tests of what the host lends: numbers 1, 3 and 5.
+use outcome::refusal::Refusal;
+use outcome::refusal::Verdict;
+ghost use mathlib.Core.Path.{_≡_};
+ghost use Prim.Native.Nat.{_^_};
+ghost use Rattle.exchange.specs.Record.{emFits, registerWidth, registersFit, recordFits, wordsFit, hostVerdict};
+
+// The central processor's record.
+pub struct Central {
+    pub p: u64,
+    pub ra: u64,
+    pub fl: u64,
+    pub em: u64,
+    // A0 to A7 at 0 to 7, B0 to B7 at 8 to 15, X0 to X7 at 16 to 23.
+    pub registers: [u64; 24],
+    // 0 while the processor runs, else its stop's number.
+    pub stop: u64,
+}
+
+// Only the bits 010000, 020000 and 040000 are set.
+pub fn em_fits(em: u64) -> bool
+    ensures { λ r. ⌜ r ≡ emFits em ⌝ }
+{
+    em == ((em >> 12) & 7) << 12
+}
+
+// The first number that is too wide for register i: A and B registers come before X0 at 16.
+fn register_limit(i: usize) -> u64
+    ensures { λ r. ⌜ r ≡ 2 ^ registerWidth i ⌝ }
+{
+    if i < 16 {
+        return 0o1000000;
+    }
+    0o100000000000000000000
+}
+
+// Each register has its width.
+pub fn registers_fit(registers: [u64; 24]) -> bool
+    ensures { λ r. ⌜ r ≡ registersFit registers ⌝ }
+{
+    let mut i: usize = 0;
+    while i < 24 {
+        let limit = register_limit(i);
+        if limit <= registers[i] {
+            return false;
+        }
+        i = i + 1;
+    }
+    true
+}
+
+// Number 5 does not refuse the record. RA and FL are added once both are known to have 18 bits.
+pub fn record_fits(c: Central, length: u64) -> bool
+    ensures { λ r. ⌜ r ≡ recordFits length c ⌝ }
+{
+    if 0o777777 < c.p {
+        return false;
+    }
+    if 0o777777 < c.ra {
+        return false;
+    }
+    if 0o777777 < c.fl {
+        return false;
+    }
+    if length < c.ra + c.fl {
+        return false;
+    }
+    if 5 < c.stop {
+        return false;
+    }
+    let b0 = c.registers[8];
+    if b0 != 0 {
+        return false;
+    }
+    if em_fits(c.em) {
+        return registers_fit(c.registers);
+    }
+    false
+}
+
+// Each word of memory has 60 bits.
+pub fn words_fit(m: &[u64]) -> bool
+    ensures { λ r. ⌜ r ≡ wordsFit (now (m .entry)) ⌝ }
+{
+    let mut i: usize = 0;
+    while i < m.len() {
+        if 0o77777777777777777777 < m[i] {
+            return false;
+        }
+        i = i + 1;
+    }
+    true
+}
+
+// Numbers 1, 3 and 5 on a lent memory and record, lowest first.
+pub fn host_verdict(m: &[u64], c: Central) -> Verdict
+    ensures { λ r. ⌜ r ≡ hostVerdict (now (m .entry)) c ⌝ }
+{
+    let length = m.len();
+    if length == 0 {
+        return Verdict::Refused(Refusal::CentralLength);
+    }
+    if 131072 < length {
+        return Verdict::Refused(Refusal::CentralLength);
+    }
+    if words_fit(m) {
+        if record_fits(c, length as u64) {
+            return Verdict::Accepted;
+        }
+        return Verdict::Refused(Refusal::RecordValue);
+    }
+    Verdict::Refused(Refusal::CentralWord)
+}
