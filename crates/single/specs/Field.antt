@@ -1,0 +1,35 @@
+-- Turns of a central record on its field. Assumes nothing.
+use Prim.Native.Nat.{ℕ, _≤_, _+_}
+use mathlib.Core.List.{List}
+use mathlib.Core.Path.{_≡_}
+use lib.ListN.{length}
+use Rattle.central.specs.State.{state}
+use Rattle.central.specs.Turn.{Run, turnsOf}
+use Rattle.central.specs.declared.address.Bounds.{Bounds}
+use Rattle.exchange.specs.Memory.{part, splice}
+use Rattle.exchange.specs.Record.{wordsFit, recordFits}
+use Rattle.exchange.specs.declared.record.Central.{Central}
+use Rattle.single.specs.declared.field.Ran.{Ran}
+
+abbrev pub boundsOf : Central → Bounds
+boundsOf c = record { ra = c .ra; fl = c .fl; em = c .em }
+
+-- memory, and the record with the turns made
+pub record RanMemory : Type 0 where
+  pub memory : List ℕ
+  pub end : Ran
+
+abbrev pub ranTo : List ℕ → Ran → RanMemory
+ranTo m o = record { memory = m; end = o }
+
+abbrev pub recordAfter : Central → Run → Central
+recordAfter c o =
+    record { p = o .end .p; ra = c .ra; fl = c .fl; em = c .em; registers = o .state .registers; stop = o .end .stop }
+
+abbrev pub after : List ℕ → Central → Run → RanMemory
+after m c o =
+    ranTo (splice m (c .ra) (c .fl) (o .state .field)) (record { central = recordAfter c o; turns = o .end .turns })
+
+-- up to n turns on the words from RA up to, but without, RA + FL
+unfoldable pub ranOn : List ℕ → Central → ℕ → RanMemory
+ranOn m c n = after m c (turnsOf n (boundsOf c) (c .p) (state (c .registers) (part m (c .ra) (c .fl))))

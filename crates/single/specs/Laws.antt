@@ -1,0 +1,5 @@
+-- Consequences of the definitions. Assumes nothing.
+pub mod Field
+pub mod Stint
+pub mod Host
+pub mod Program

@@ -1,0 +1,11 @@
+-- The definitions that the contracts of `single` cite. A reader has to believe these; `Laws` is proved from them.
+-- "lowest number first"
+pub mod Order
+-- turns on a field, and stints
+pub mod Field
+pub mod Stint
+-- central_turn and exchange
+pub mod Host
+-- run_program
+pub mod Program
+pub mod Laws

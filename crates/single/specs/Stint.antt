@@ -1,0 +1,32 @@
+-- A stint of one program. "Stint" is document 01's word for a program's turns between an exchange in and an exchange out. Assumes nothing.
+use Prim.Native.Nat.{ℕ}
+use mathlib.Core.List.{List}
+use Rattle.exchange.specs.Jump.{Exchanged, exchanged}
+use Rattle.exchange.specs.declared.record.Central.{Central}
+use Rattle.single.specs.Field.{RanMemory, ranOn}
+use Rattle.single.specs.declared.stint.StintEnd.{StintEnd}
+
+pub record StintMemory : Type 0 where
+  pub memory : List ℕ
+  pub end : StintEnd
+
+abbrev pub stintTo : List ℕ → StintEnd → StintMemory
+stintTo m o = record { memory = m; end = o }
+
+-- the record with another stop
+abbrev pub withStop : Central → ℕ → Central
+withStop c stop = record { p = c .p; ra = c .ra; fl = c .fl; em = c .em; registers = c .registers; stop = stop }
+
+-- after the exchange in and the turns, the exchange out; the record's stop is put back
+abbrev pub exchangedOut : Central → ℕ → RanMemory → StintMemory
+exchangedOut c at o =
+    stintTo (exchanged (o .memory) (o .end .central) at .memory)
+    (record {
+      central = withStop (exchanged (o .memory) (o .end .central) at .central) (c .stop);
+      turns = o .end .turns;
+      stop = o .end .central .stop;
+    })
+
+-- "A stint exchanges in at its job's package, makes up to its turns, ends early at a stop, exchanges out."
+unfoldable pub stintOf : List ℕ → Central → ℕ → ℕ → StintMemory
+stintOf m c at n = exchangedOut c at (ranOn (exchanged m c at .memory) (exchanged m c at .central) n)

@@ -1,0 +1,75 @@
+// The calls on the central record itself: one turn, one exchange jump.
+ghost use mathlib.Core.Path.{_≡_};
+ghost use Rattle.exchange.specs.Laws.Verdicts.{Lent};
+ghost use Rattle.single.specs.Host.{machine, turnedOnce, exchangeVerdict, answerTo, turnAnswer, exchangeAnswer};
+use super::field::run;
+use exchange::jump::exchange_jump;
+use exchange::jump::package_verdict;
+use exchange::record::Central;
+use exchange::record::host_verdict;
+use outcome::refusal::Verdict;
+
+// The verdict and the record.
+pub struct Answer {
+    pub verdict: Verdict,
+    pub central: Central,
+}
+
+// A stopped processor's turn changes nothing.
+fn turn_if_running(m: &mut [u64], c: Central) -> Central
+    requires { ⌜ Lent (now m) c ⌝ }
+    ensures { λ r. ⌜ machine (now (m .exit)) r ≡ turnedOnce (now (m .entry)) c ⌝ }
+{
+    if c.stop != 0 {
+        return c;
+    }
+    let o = run(&mut *m, c, 1);
+    o.central
+}
+
+// One turn of the central processor.
+pub fn central_turn(m: &mut [u64], c: Central) -> Answer
+    ensures { λ o. ⌜ answerTo (now (m .exit)) o ≡ turnAnswer (now (m .entry)) c ⌝ }
+{
+    match host_verdict(&*m, c) {
+        Verdict::Accepted => {
+            let central = turn_if_running(&mut *m, c);
+            Answer {
+                verdict: Verdict::Accepted,
+                central,
+            }
+        }
+        Verdict::Refused(r) => Answer {
+            verdict: Verdict::Refused(r),
+            central: c,
+        },
+    }
+}
+
+fn exchange_verdict(m: &[u64], c: Central, at: u64) -> Verdict
+    ensures { λ r. ⌜ r ≡ exchangeVerdict (now (m .entry)) c at ⌝ }
+{
+    match host_verdict(m, c) {
+        Verdict::Accepted => package_verdict(m, at),
+        Verdict::Refused(r) => Verdict::Refused(r),
+    }
+}
+
+// An exchange jump at the package with this address.
+pub fn exchange(m: &mut [u64], c: Central, at: u64) -> Answer
+    ensures { λ o. ⌜ answerTo (now (m .exit)) o ≡ exchangeAnswer (now (m .entry)) c at ⌝ }
+{
+    match exchange_verdict(&*m, c, at) {
+        Verdict::Accepted => {
+            let central = exchange_jump(&mut *m, c, at as usize);
+            Answer {
+                verdict: Verdict::Accepted,
+                central,
+            }
+        }
+        Verdict::Refused(r) => Answer {
+            verdict: Verdict::Refused(r),
+            central: c,
+        },
+    }
+}

@@ -1,0 +1,98 @@
+// The call that runs one program.
+ghost use mathlib.Core.Path.{_≡_};
+ghost use Prim.Native.Nat.{_+_, _≤_};
+ghost use lib.ListN.{length};
+ghost use Rattle.exchange.specs.Laws.Verdicts.{Ready};
+ghost use Rattle.single.specs.Program.{sharesWord, overlapVerdict, ownerVerdict, runVerdict, runTo, runAnswer};
+use super::stint::stint;
+use exchange::jump::package_verdict;
+use exchange::package::load;
+use exchange::record::Central;
+use exchange::record::host_verdict;
+use outcome::refusal::Refusal;
+use outcome::refusal::Verdict;
+
+// The verdict, the record, the turns made, and the stop's number, or 0.
+pub struct RunAnswer {
+    pub verdict: Verdict,
+    pub central: Central,
+    pub turns: u64,
+    pub stop: u64,
+}
+
+// The n words from a up and the k words from b up have one in common.
+fn shares_word(a: u64, n: u64, b: u64, k: u64) -> bool
+    requires { ⌜ (a + n ≤ 131072) × (b + k ≤ 131072) ⌝ }
+    ensures { λ r. ⌜ r ≡ sharesWord a n b k ⌝ }
+{
+    if n == 0 {
+        return false;
+    }
+    if k == 0 {
+        return false;
+    }
+    if b + k <= a {
+        return false;
+    }
+    b < a + n
+}
+
+// Number 12: the package and the field of its own record.
+fn overlap_verdict(m: &[u64], at: usize) -> Verdict
+    requires { ⌜ Ready (now m) at ⌝ }
+    requires { ⌜ length (now m) ≤ 131072 ⌝ }
+    ensures { λ r. ⌜ r ≡ overlapVerdict (now (m .entry)) at ⌝ }
+{
+    let c = load(m, at);
+    if shares_word(at as u64, 16, c.ra, c.fl) {
+        return Verdict::Refused(Refusal::SharedWord);
+    }
+    Verdict::Accepted
+}
+
+// Numbers 8 to 12.
+fn owner_verdict(m: &[u64], at: u64, n: u64) -> Verdict
+    requires { ⌜ length (now m) ≤ 131072 ⌝ }
+    ensures { λ r. ⌜ r ≡ ownerVerdict (now (m .entry)) at n ⌝ }
+{
+    if 65535 < n {
+        return Verdict::Refused(Refusal::TooManyTurns);
+    }
+    match package_verdict(m, at) {
+        Verdict::Accepted => overlap_verdict(m, at as usize),
+        Verdict::Refused(r) => Verdict::Refused(r),
+    }
+}
+
+fn run_verdict(m: &[u64], c: Central, at: u64, n: u64) -> Verdict
+    ensures { λ r. ⌜ r ≡ runVerdict (now (m .entry)) c at n ⌝ }
+{
+    match host_verdict(m, c) {
+        Verdict::Accepted => owner_verdict(m, at, n),
+        Verdict::Refused(r) => Verdict::Refused(r),
+    }
+}
+
+// Runs the program of the package at this address for up to n turns. The record comes back as it was, its stop included.
+pub fn run_program(m: &mut [u64], c: Central, at: u64, n: u64) -> RunAnswer
+    ensures { λ o. ⌜ runTo (now (m .exit)) o ≡ runAnswer (now (m .entry)) c at n ⌝ }
+{
+    match run_verdict(&*m, c, at, n) {
+        Verdict::Accepted => {
+            let o = stint(&mut *m, c, at as usize, n);
+            let central = o.central;
+            RunAnswer {
+                verdict: Verdict::Accepted,
+                central,
+                turns: o.turns,
+                stop: o.stop,
+            }
+        }
+        Verdict::Refused(r) => RunAnswer {
+            verdict: Verdict::Refused(r),
+            central: c,
+            turns: 0,
+            stop: 0,
+        },
+    }
+}
