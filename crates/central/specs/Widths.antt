@@ -9,8 +9,9 @@ use Rattle.central.specs.declared.effect.Effect.{Effect}
 use Rattle.central.specs.declared.effect.Effect.the-variants.{Pass, Stop, Jump, ReturnJump, SetA, SetB, SetX, SetXB}
 use Rattle.central.specs.declared.instruction.Instruction.{Instruction}
 
--- "A and B registers ... have 18 bits, X registers 60. B0 is zero"
+-- the 24 registers: "A and B registers ... have 18 bits, X registers 60. B0 is zero"
 pub record Wide (r : List ℕ) : Type 0 where
+  pub count : length r ≡ 24
   pub short : (i : ℕ) → i < 16 → getD r i 0 < 2 ^ 18
   pub long : (i : ℕ) → getD r i 0 < 2 ^ 60
   pub b0 : getD r 8 0 ≡ 0

@@ -1,13 +1,10 @@
 -- Turns of a central record on its field. Assumes nothing.
-use Prim.Native.Nat.{ℕ, _≤_, _+_}
 use mathlib.Core.List.{List}
-use mathlib.Core.Path.{_≡_}
-use lib.ListN.{length}
+use Prim.Native.Nat.{ℕ}
 use Rattle.central.specs.State.{state}
 use Rattle.central.specs.Turn.{Run, turnsOf}
 use Rattle.central.specs.declared.address.Bounds.{Bounds}
 use Rattle.exchange.specs.Memory.{part, splice}
-use Rattle.exchange.specs.Record.{wordsFit, recordFits}
 use Rattle.exchange.specs.declared.record.Central.{Central}
 use Rattle.single.specs.declared.field.Ran.{Ran}
 
@@ -31,5 +28,8 @@ after m c o =
     ranTo (splice m (c .ra) (c .fl) (o .state .field)) (record { central = recordAfter c o; turns = o .end .turns })
 
 -- up to n turns on the words from RA up to, but without, RA + FL
+abbrev pub fieldRun : List ℕ → Central → ℕ → Run
+fieldRun m c n = turnsOf n (boundsOf c) (c .p) (state (c .registers) (part m (c .ra) (c .fl)))
+
 unfoldable pub ranOn : List ℕ → Central → ℕ → RanMemory
-ranOn m c n = after m c (turnsOf n (boundsOf c) (c .p) (state (c .registers) (part m (c .ra) (c .fl))))
+ranOn m c n = after m c (fieldRun m c n)

@@ -1,10 +1,10 @@
 -- The calls on the central record itself. Assumes nothing.
-use Prim.Native.Nat.{ℕ}
 use mathlib.Core.Bool.{cond}
 use mathlib.Core.List.{List}
+use Prim.Native.Nat.{ℕ}
 use lib.Dec.{eqb}
-use Rattle.outcome.specs.declared.refusal.Verdict.{Verdict}
 use Rattle.outcome.specs.declared.refusal.Verdict.the-variants as Call
+use Rattle.outcome.specs.declared.refusal.Verdict.{Verdict}
 use Rattle.central.specs.State.{state}
 use Rattle.central.specs.Turn.{Turn, turnOf}
 use Rattle.exchange.specs.Jump.{packageVerdict, exchanged}

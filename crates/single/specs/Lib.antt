@@ -3,6 +3,7 @@
 pub mod Order
 -- turns on a field, and stints
 pub mod Field
+pub mod Overlap
 pub mod Stint
 -- central_turn and exchange
 pub mod Host

@@ -1,23 +1,18 @@
 -- The call that runs one program. Assumes nothing.
-use Prim.Native.Nat.{ℕ, _+_, _≤_}
-use mathlib.Core.Bool.{Bool, false, _&&_, cond}
+use mathlib.Core.Bool.{cond}
 use mathlib.Core.List.{List}
-use mathlib.Core.Path.{_≡_}
+use Prim.Native.Nat.{ℕ}
 use lib.Dec.{ltb}
 use Rattle.outcome.specs.declared.refusal.Refusal.the-variants as Refusal
-use Rattle.outcome.specs.declared.refusal.Verdict.{Verdict}
 use Rattle.outcome.specs.declared.refusal.Verdict.the-variants as Call
+use Rattle.outcome.specs.declared.refusal.Verdict.{Verdict}
 use Rattle.exchange.specs.Jump.{recordAt, packageVerdict}
 use Rattle.exchange.specs.Record.{hostVerdict}
-use Rattle.exchange.specs.Laws.Verdicts.{Lent, Ready}
 use Rattle.exchange.specs.declared.record.Central.{Central}
 use Rattle.single.specs.Order.{orElse}
+use Rattle.single.specs.Overlap.{sharesWord}
 use Rattle.single.specs.Stint.{StintMemory, stintOf}
 use Rattle.single.specs.declared.program.RunAnswer.{RunAnswer}
-
--- the n words from a up and the k words from b up share a word: neither part is empty, and each begins before the other ends
-unfoldable pub sharesWord : ℕ → ℕ → ℕ → ℕ → Bool
-sharesWord a n b k = ltb 0 n && ltb 0 k && ltb a (b + k) && ltb b (a + n)
 
 -- "12 any two of the listed packages and fields share a word": here one package and one field
 unfoldable pub overlapVerdict : List ℕ → ℕ → Verdict
@@ -51,9 +46,3 @@ runAnswerBy (Call.Refused r) m c o = runTo m (record { verdict = Call.Refused r;
 -- one stint of the program of the package at this address
 unfoldable pub runAnswer : List ℕ → Central → ℕ → ℕ → RunAnswered
 runAnswer m c at n = runAnswerBy (runVerdict m c at n) m c (stintOf m c at n)
-
--- what is asked of a memory, a record and a package's address for a stint
-pub record Accepted (m : List ℕ) (c : Central) (at : ℕ) : Type 0 where
-  pub host : Lent m c
-  pub owner : Ready m at
-  pub apart : sharesWord at 16 (recordAt m at .ra) (recordAt m at .fl) ≡ false

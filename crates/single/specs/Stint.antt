@@ -1,8 +1,12 @@
 -- A stint of one program. "Stint" is document 01's word for a program's turns between an exchange in and an exchange out. Assumes nothing.
-use Prim.Native.Nat.{ℕ}
+use mathlib.Core.Bool.{false}
 use mathlib.Core.List.{List}
-use Rattle.exchange.specs.Jump.{Exchanged, exchanged}
+use mathlib.Core.Path.{_≡_}
+use Prim.Native.Nat.{ℕ}
+use Rattle.exchange.specs.Jump.{recordAt, exchanged}
+use Rattle.exchange.specs.Laws.Verdicts.{Lent, Ready}
 use Rattle.exchange.specs.declared.record.Central.{Central}
+use Rattle.single.specs.Overlap.{sharesWord}
 use Rattle.single.specs.Field.{RanMemory, ranOn}
 use Rattle.single.specs.declared.stint.StintEnd.{StintEnd}
 
@@ -30,3 +34,9 @@ exchangedOut c at o =
 -- "A stint exchanges in at its job's package, makes up to its turns, ends early at a stop, exchanges out."
 unfoldable pub stintOf : List ℕ → Central → ℕ → ℕ → StintMemory
 stintOf m c at n = exchangedOut c at (ranOn (exchanged m c at .memory) (exchanged m c at .central) n)
+
+-- what is asked of memory, record and package for a stint: no number refuses them
+pub record Accepted (m : List ℕ) (c : Central) (at : ℕ) : Type 0 where
+  pub host : Lent m c
+  pub owner : Ready m at
+  pub apart : sharesWord at 16 (recordAt m at .ra) (recordAt m at .fl) ≡ false

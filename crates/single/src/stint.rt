@@ -1,9 +1,6 @@
 // A stint of one program.
 ghost use mathlib.Core.Path.{_≡_};
-ghost use Prim.Native.Nat.{_+_, _≤_};
-ghost use lib.ListN.{length};
-ghost use Rattle.single.specs.Stint.{stintTo, stintOf};
-ghost use Rattle.single.specs.Program.{Accepted};
+ghost use Rattle.single.specs.Stint.{stintTo, stintOf, Accepted};
 use super::field::run;
 use exchange::jump::exchange_jump;
 use exchange::record::Central;

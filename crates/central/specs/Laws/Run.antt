@@ -143,3 +143,16 @@ turns-then-turns (suc n) k b p s h =
     let t = turnOf b p s in
     let e : suc n + k ≡ suc (n + k) = omega arith in
     rw e (more-turns b p n k s t refl (turns-then-turns n k b (t .end .p) (t .state)) (eqb (t .end .stop) 0) refl h)
+
+one-turn : (b : Bounds) (t : Turn) (z : Bool) → eqb (t .end .stop) 0 ≡ z
+    → cond z (turnsBefore 1 (turnsOf 0 b (t .end .p) (t .state))) (ran (t .state) (runEnd (t .end .p) (t .end .stop) 1))
+    ≡ ran (t .state) (runEnd (t .end .p) (t .end .stop) 1)
+unfolding turnsOf
+one-turn b t true z = rw (eqb-true (t .end .stop) 0 z)
+one-turn b t false z = refl
+
+-- a run of one turn is that turn
+pub turns-one : (b : Bounds) (p : ℕ) (s : State)
+    → turnsOf 1 b p s ≡ ran (turnOf b p s .state) (runEnd (turnOf b p s .end .p) (turnOf b p s .end .stop) 1)
+unfolding turnsOf
+turns-one b p s = one-turn b (turnOf b p s) (eqb (turnOf b p s .end .stop) 0) refl

@@ -39,6 +39,7 @@ set-has P (x ∷ l) (suc i) (suc j) v p q = set-has P l i j v p q
 short-set : (r : List ℕ) (i v : ℕ) → (8 ≡ i → ⊥) → v < 2 ^ 18 → Wide r → Wide (set r i v)
 short-set r i v n h w =
     record {
+      count = length-set r i v ∙ w .count;
       short = λ j l. set-has (λ (x : ℕ). x < 2 ^ 18) r i j v h (w .short j l);
       long = λ j. set-has (λ (x : ℕ). x < 2 ^ 60) r i j v (omega arith) (w .long j);
       b0 = getD-set-other r i 8 v 0 n ∙ w .b0;
@@ -47,6 +48,7 @@ short-set r i v n h w =
 x-set : (r : List ℕ) (i v : ℕ) → v < 2 ^ 60 → Wide r → Wide (setX r i v)
 x-set r i v h w =
     record {
+      count = length-set r (16 + i) v ∙ w .count;
       short = λ j l. rw (getD-set-other r (16 + i) j v 0 (λ e. omega arith)) (w .short j l);
       long = λ j. set-has (λ (x : ℕ). x < 2 ^ 60) r (16 + i) j v h (w .long j);
       b0 = getD-set-other r (16 + i) 8 v 0 (λ e. omega arith) ∙ w .b0;

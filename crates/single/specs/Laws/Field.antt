@@ -1,1 +1,113 @@
--- Assumes nothing.
+-- Turns on a field leave what the host lends as it may be lent, and change no word outside the field. Assumes nothing.
+use mathlib.Core.List.{List}
+use mathlib.Core.Logic.{_⊎_, ⊎-elim}
+use mathlib.Core.Path.{_≡_}
+use Prim.Native.Nat.{ℕ, _+_, _-_, _^_, _≤_, _<_}
+use native.Mathlib.Omega.{arith}
+use borrow.Author.Tests.{lt-ltb, le-ltb}
+use lib.ListN.{length, getD, List·getD-eq-default}
+use lib.Dec.{lit<}
+use Rattle.word.specs.Laws.Choice.{le-or-lt}
+use Rattle.central.specs.Widths as Central
+use Rattle.central.specs.State.{state}
+use Rattle.central.specs.Widths.{Kept}
+use Rattle.central.specs.Laws.Run.{RunLeft, run-left}
+use Rattle.exchange.specs.Memory.{part}
+use Rattle.exchange.specs.Record.{Wide, registerWidth}
+use Rattle.exchange.specs.Laws.Memory.{length-part, part-lt, length-splice, splice-lt, word-below, word-above}
+use Rattle.exchange.specs.Laws.Record.{Fits, fits, of-fits, word-width, of-word-width}
+use Rattle.exchange.specs.Laws.Verdicts.{Lent}
+use Rattle.exchange.specs.declared.record.Central.{Central}
+use Rattle.single.specs.Field.{boundsOf, fieldRun, ranOn}
+
+-- registers as the central processor asks for them, from a record and back
+module _ (c : Central) (w : Wide c) (count : length (c .registers) ≡ 24) where
+  short : (i : ℕ) → i < 16 → getD (c .registers) i 0 < 2 ^ 18
+  short i h = rw (lt-ltb i 16 h) at (w .register-width i (omega arith))
+
+  long : (i : ℕ) → getD (c .registers) i 0 < 2 ^ 60
+  long i =
+      ⊎-elim (λ h. rw (List·getD-eq-default (c .registers) 0 {n = i} (omega arith)) (lit< tt))
+      (λ h. ⊎-elim (λ k. rw (le-ltb i 16 k) at (w .register-width i h)) (λ k. omega (arith, short i k)) (le-or-lt 16 i))
+      (le-or-lt 24 i)
+
+  pub registers-wide : Central.Wide (c .registers)
+  registers-wide = record { count = count; short = short; long = long; b0 = w .b0-zero }
+
+pub register-width : (r : List ℕ) → Central.Wide r → (i : ℕ) → getD r i 0 < 2 ^ registerWidth i
+register-width r w i =
+    ⊎-elim (λ h. rw (le-ltb i 16 h) (w .long i)) (λ h. rw (lt-ltb i 16 h) (w .short i h)) (le-or-lt 16 i)
+
+-- a memory and a record as the host may lend them
+module _ (m : List ℕ) (c : Central) (l : Lent m c) where
+  fitting : Fits (length m) c
+  fitting = fits (length m) c (l .fits)
+
+  pub field-inside : c .ra + c .fl ≤ length m
+  field-inside = fitting .field
+
+  pub field-room : c .ra + c .fl ≤ 131072
+  field-room = omega (arith, field-inside, l .most)
+
+  pub p-short : c .p < 2 ^ 18
+  p-short = fitting .wide .p-width
+
+-- turns on them
+module _ (m : List ℕ) (c : Central) (l : Lent m c) (count : length (c .registers) ≡ 24) where
+  room : c .ra + c .fl ≤ length m
+  room = field-inside m c l
+
+  pub field-kept : Kept (c .fl) (state (c .registers) (part m (c .ra) (c .fl)))
+  field-kept =
+      record {
+        wide = registers-wide c (fitting m c l .wide) count;
+        words = record { word = part-lt m (c .ra) (c .fl) (2 ^ 60) (word-width m (l .words)) };
+        size = length-part m (c .ra) (c .fl) room;
+      }
+
+  pub ran-left : (n : ℕ) → RunLeft (c .fl) (fieldRun m c n)
+  ran-left n = run-left (c .fl) (boundsOf c) (omega (arith, field-room m c l)) n (c .p) _ (fitting m c l .wide .p-width) field-kept
+
+  pub ran-length : (n : ℕ) → length (ranOn m c n .memory) ≡ length m
+  unfolding ranOn
+  ran-length n = length-splice m (c .ra) (c .fl) (fieldRun m c n .state .field) room (ran-left n .kept .size)
+
+  pub ran-wide : (n : ℕ) → Wide (ranOn m c n .end .central)
+  unfolding ranOn
+  ran-wide n =
+      let w = ran-left n .kept .wide in
+      record {
+        p-width = ran-left n .p;
+        ra-width = fitting m c l .wide .ra-width;
+        fl-width = fitting m c l .wide .fl-width;
+        em-fits = fitting m c l .wide .em-fits;
+        register-width = λ i h. register-width _ w i;
+        b0-zero = w .b0;
+      }
+
+  -- widths, lengths, RA, FL, EM and B0 are kept: what is handed back may be lent again
+  pub ran-lent : (n : ℕ) → Lent (ranOn m c n .memory) (ranOn m c n .end .central)
+  unfolding ranOn
+  ran-lent n =
+      let size = ran-length n in
+      record {
+        some = omega (arith, l .some, size);
+        most = omega (arith, l .most, size);
+        words =
+            of-word-width (ranOn m c n .memory)
+            (splice-lt m (c .ra) (c .fl) (fieldRun m c n .state .field) room (ran-left n .kept .size) (2 ^ 60) (word-width m (l .words)) (ran-left n .kept .words .word));
+        fits = of-fits (length (ranOn m c n .memory)) (ranOn m c n .end .central) (record { wide = ran-wide n; field = omega (arith, room, size); stop = ran-left n .stop });
+      }
+
+  -- no word outside the field changes
+  pub ran-below : (n i : ℕ) → i < c .ra → getD (ranOn m c n .memory) i 0 ≡ getD m i 0
+  unfolding ranOn
+  ran-below n = word-below m (c .ra) (c .fl) (fieldRun m c n .state .field) room (ran-left n .kept .size)
+
+  pub ran-above : (n i : ℕ) → c .ra + c .fl ≤ i → getD (ranOn m c n .memory) i 0 ≡ getD m i 0
+  unfolding ranOn
+  ran-above n = word-above m (c .ra) (c .fl) (fieldRun m c n .state .field) room (ran-left n .kept .size)
+
+-- the part lent as `&mut m[ra..ra + fl]`
+pub lent-part : (c : Central) → c .ra + c .fl - c .ra ≡ c .fl
+lent-part c = omega arith

@@ -1,1 +1,36 @@
--- Assumes nothing.
+-- The call that runs one program: what an accepted call is, and its promises in a reader's words. Assumes nothing.
+use mathlib.Core.Bool.{Bool, true, false, cond}
+use mathlib.Core.List.{List}
+use mathlib.Core.Path.{_≡_, refl}
+use Prim.Native.Nat.{ℕ}
+use native.Mathlib.Omega.{arith}
+use lib.Dec.{ltb}
+use Rattle.outcome.specs.declared.refusal.Refusal.the-variants as Because
+use Rattle.outcome.specs.declared.refusal.Verdict.the-variants as Call
+use Rattle.outcome.specs.declared.refusal.Refusal.{Refusal}
+use Rattle.outcome.specs.declared.refusal.Verdict.{Verdict}
+use Rattle.exchange.specs.Record.{hostVerdict}
+use Rattle.exchange.specs.Jump.{recordAt, packageVerdict}
+use Rattle.exchange.specs.Laws.Verdicts.{lent, ready}
+use Rattle.exchange.specs.declared.record.Central.{Central}
+use Rattle.single.specs.Overlap.{sharesWord}
+use Rattle.single.specs.Stint.{Accepted}
+use Rattle.single.specs.Program.{overlapVerdict, ownerVerdict, runVerdict}
+use Rattle.single.specs.Laws.Host.{both-accept}
+
+-- accepted where a fault is not found
+by-fault : (t : Bool) (r : Refusal) (v : Verdict) → cond t (Call.Refused r) v ≡ Call.Accepted → (t ≡ false) × (v ≡ Call.Accepted)
+by-fault true r v e = let z : _≡_ {A = ℕ} 0 1 = cc in absurd (omega arith)
+by-fault false r v e = (refl, e)
+
+pub accepted : (m : List ℕ) (c : Central) (at n : ℕ) → runVerdict m c at n ≡ Call.Accepted → Accepted m c at
+unfolding runVerdict ownerVerdict overlapVerdict
+accepted m c at n e =
+    let first = both-accept (hostVerdict m c) (ownerVerdict m at n) e in
+    let turns = by-fault (ltb 65535 n) Because.TooManyTurns _ (first .1) in
+    let packages = both-accept (packageVerdict m at) (overlapVerdict m at) (turns .1) in
+    record {
+      host = lent m c (first .0);
+      owner = ready m at (packages .0);
+      apart = by-fault (sharesWord at 16 (recordAt m at .ra) (recordAt m at .fl)) Because.SharedWord Call.Accepted (packages .1) .0;
+    }

@@ -1,15 +1,16 @@
+-- `single::field::run` meets its contract. Assumes nothing.
+use native.Mathlib.Omega.{arith}
 use borrow.Author.Needs.{needs}
-use Rattle.single.proofs.field.run.Statement.{statement}
 use Rattle.single.proofs.field.run.Tie as tie
-use Rattle.single.proofs.field.run.Reads as reads
-use Rattle.single.proofs.field.run.Lts as lts
-use Rattle.central.proofs.turn.turns.Reads as turns-reads
+use Rattle.single.specs.Laws.Field.{field-inside, p-short, lent-part, field-room, field-kept}
+use Rattle.single.specs.Field.{ranOn}
+use Rattle.single.proofs.field.run.Statement.{statement}
 
 add-end : tie.Need-add-end
-add-end c = ?
+add-end c = omega (arith, field-room _ _ (c .before .before .pre))
 
 mul-turns : tie.Need-mul-turns
-mul-turns c = ?
+mul-turns c = omega (arith, field-room _ _ (c .before .before .before .pre))
 
 sub-turns : tie.Need-sub-turns
 sub-turns c = search needs
@@ -18,16 +19,17 @@ part-turns-start : tie.Need-part-turns-start
 part-turns-start c = search needs
 
 part-turns-end : tie.Need-part-turns-end
-part-turns-end c = ?
+part-turns-end c = omega (arith, field-inside _ _ (c .before .before .before .pre))
 
 turns-requires : tie.Need-turns-requires
-turns-requires c κs = ?
+turns-requires c κs = rw (lent-part (c .before .before .before .before .args .c)) (field-kept _ _ (c .before .before .before .before .pre) (search needs), (field-room _ _ (c .before .before .before .before .pre), p-short _ _ (c .before .before .before .before .pre)))
 
 same-length : tie.Need-same-length
 same-length c = search needs
 
 returns : tie.Need-returns
-returns c = ?
+unfolding ranOn
+returns c = rw (lent-part (c .before .before .before .before .before .before .before .args .c), ← rw (lent-part (c .before .before .before .before .before .before .before .args .c)) at (c .before .before .turns .ensures))
 
 pub run-spec : {M : Type 1} → statement M
 run-spec =

@@ -1,10 +1,10 @@
+-- `single::host::central_turn` meets its contract. Assumes nothing.
+use mathlib.Core.Path.{_∙_, sym}
 use borrow.Author.Needs.{needs}
-use Rattle.single.proofs.host.central_turn.Statement.{statement}
 use Rattle.single.proofs.host.central_turn.Tie as tie
-use Rattle.single.proofs.host.central_turn.Reads as reads
-use Rattle.single.proofs.host.central_turn.Lts as lts
-use Rattle.exchange.proofs.record.host_verdict.Reads as host-verdict-reads
-use Rattle.single.proofs.host.turn_if_running.Reads as turn-if-running-reads
+use Rattle.exchange.specs.Laws.Verdicts.{lent}
+use Rattle.single.specs.Host.{turnAnswer}
+use Rattle.single.proofs.host.central_turn.Statement.{statement}
 
 host-verdict-requires : tie.Need-host-verdict-requires
 host-verdict-requires c κs = search needs
@@ -13,7 +13,7 @@ enum-told : tie.Need-enum-told
 enum-told c = search needs
 
 turn-if-running-requires : tie.Need-turn-if-running-requires
-turn-if-running-requires c κs = ?
+turn-if-running-requires c κs = lent _ _ (sym (c .before .before .before .host-verdict .ensures) ∙ c .before .enum-told .given .1)
 
 enum-known-r : tie.Need-enum-known-r
 enum-known-r c = search needs
@@ -22,13 +22,15 @@ same-length : tie.Need-same-length
 same-length c = search needs
 
 returns : tie.Need-returns
-returns c = ?
+unfolding turnAnswer
+returns c = rw (← c .before .before .before .before .before .before .host-verdict .ensures, c .before .before .before .before .enum-told .given .1, ← c .before .before .turn-if-running .ensures)
 
 same-length-2 : tie.Need-same-length-2
 same-length-2 c = search needs
 
 returns-2 : tie.Need-returns-2
-returns-2 c = ?
+unfolding turnAnswer
+returns-2 c = rw (← c .before .before .before .host-verdict .ensures, c .before .r .given .1)
 
 pub central-turn-spec : {M : Type 1} → statement M
 central-turn-spec =

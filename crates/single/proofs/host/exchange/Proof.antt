@@ -1,10 +1,11 @@
+-- `single::host::exchange` meets its contract. Assumes nothing.
+use mathlib.Core.Path.{_∙_, sym}
 use borrow.Author.Needs.{needs}
-use Rattle.single.proofs.host.exchange.Statement.{statement}
 use Rattle.single.proofs.host.exchange.Tie as tie
-use Rattle.single.proofs.host.exchange.Reads as reads
-use Rattle.single.proofs.host.exchange.Lts as lts
-use Rattle.exchange.proofs.jump.exchange_jump.Reads as exchange-jump-reads
-use Rattle.single.proofs.host.exchange_verdict.Reads as exchange-verdict-reads
+use Rattle.exchange.specs.Laws.Record.{fits}
+use Rattle.single.specs.Host.{exchangeAnswer}
+use Rattle.single.specs.Laws.Host.{exchange-lent, exchange-ready}
+use Rattle.single.proofs.host.exchange.Statement.{statement}
 
 exchange-verdict-requires : tie.Need-exchange-verdict-requires
 exchange-verdict-requires c κs = search needs
@@ -13,7 +14,7 @@ enum-told : tie.Need-enum-told
 enum-told c = search needs
 
 exchange-jump-requires : tie.Need-exchange-jump-requires
-exchange-jump-requires c κs = ?
+exchange-jump-requires c κs = let e = sym (c .before .before .before .exchange-verdict .ensures) ∙ c .before .enum-told .given .1 in (exchange-ready _ _ _ e .inside, fits _ _ (exchange-lent _ _ _ e .fits) .wide)
 
 enum-known-r : tie.Need-enum-known-r
 enum-known-r c = search needs
@@ -22,13 +23,15 @@ same-length : tie.Need-same-length
 same-length c = search needs
 
 returns : tie.Need-returns
-returns c = ?
+unfolding exchangeAnswer
+returns c = rw (← c .before .before .before .before .before .before .exchange-verdict .ensures, c .before .before .before .before .enum-told .given .1, ← c .before .before .exchange-jump .ensures)
 
 same-length-2 : tie.Need-same-length-2
 same-length-2 c = search needs
 
 returns-2 : tie.Need-returns-2
-returns-2 c = ?
+unfolding exchangeAnswer
+returns-2 c = rw (← c .before .before .before .exchange-verdict .ensures, c .before .r .given .1)
 
 pub exchange-spec : {M : Type 1} → statement M
 exchange-spec =

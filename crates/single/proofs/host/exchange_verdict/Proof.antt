@@ -1,10 +1,8 @@
+-- `single::host::exchange_verdict` meets its contract. Assumes nothing.
 use borrow.Author.Needs.{needs}
-use Rattle.single.proofs.host.exchange_verdict.Statement.{statement}
 use Rattle.single.proofs.host.exchange_verdict.Tie as tie
-use Rattle.single.proofs.host.exchange_verdict.Reads as reads
-use Rattle.single.proofs.host.exchange_verdict.Lts as lts
-use Rattle.exchange.proofs.jump.package_verdict.Reads as package-verdict-reads
-use Rattle.exchange.proofs.record.host_verdict.Reads as host-verdict-reads
+use Rattle.single.specs.Host.{exchangeVerdict}
+use Rattle.single.proofs.host.exchange_verdict.Statement.{statement}
 
 host-verdict-requires : tie.Need-host-verdict-requires
 host-verdict-requires c κs = search needs
@@ -19,10 +17,12 @@ enum-known-r : tie.Need-enum-known-r
 enum-known-r c = search needs
 
 returns : tie.Need-returns
-returns c = ?
+unfolding exchangeVerdict
+returns c = rw (← c .before .before .before .host-verdict .ensures, c .before .enum-told .given .1) (c .package-verdict .ensures)
 
 returns-2 : tie.Need-returns-2
-returns-2 c = ?
+unfolding exchangeVerdict
+returns-2 c = rw (← c .before .before .before .host-verdict .ensures, c .before .r .given .1)
 
 pub exchange-verdict-spec : {M : Type 1} → statement M
 exchange-verdict-spec =

@@ -1,22 +1,23 @@
+-- `single::program::overlap_verdict` meets its contract. Assumes nothing.
+use native.Mathlib.Omega.{arith}
 use borrow.Author.Needs.{needs}
-use Rattle.single.proofs.program.overlap_verdict.Statement.{statement}
 use Rattle.single.proofs.program.overlap_verdict.Tie as tie
-use Rattle.single.proofs.program.overlap_verdict.Reads as reads
-use Rattle.single.proofs.program.overlap_verdict.Lts as lts
-use Rattle.exchange.proofs.package.load.Reads as load-reads
-use Rattle.single.proofs.program.shares_word.Reads as shares-word-reads
+use Rattle.single.specs.Program.{overlapVerdict}
+use Rattle.single.proofs.program.overlap_verdict.Statement.{statement}
 
 load-requires : tie.Need-load-requires
 load-requires c κs = search needs
 
 shares-word-requires : tie.Need-shares-word-requires
-shares-word-requires c κs = ?
+shares-word-requires c κs = rw (c .load .ensures) (omega (arith, c .before .before .pre .0 .inside, c .before .before .pre .1), omega (arith, c .before .before .pre .0 .field, c .before .before .pre .1))
 
 returns : tie.Need-returns
-returns c = ?
+unfolding overlapVerdict
+returns c = rw (← c .before .before .load .ensures, ← c .before .shares-word .ensures, c .if1 .taken)
 
 returns-2 : tie.Need-returns-2
-returns-2 c = ?
+unfolding overlapVerdict
+returns-2 c = rw (← c .before .before .load .ensures, ← c .before .shares-word .ensures, c .if1 .left)
 
 pub overlap-verdict-spec : {M : Type 1} → statement M
 overlap-verdict-spec = tie.close (tie.spec load-requires shares-word-requires returns returns-2)

@@ -1,13 +1,15 @@
+-- `single::program::owner_verdict` meets its contract. Assumes nothing.
+use mathlib.Core.Path.{_∙_, sym}
+use borrow.Author.Tests.{lt-ltb, le-ltb}
 use borrow.Author.Needs.{needs}
-use Rattle.single.proofs.program.owner_verdict.Statement.{statement}
 use Rattle.single.proofs.program.owner_verdict.Tie as tie
-use Rattle.single.proofs.program.owner_verdict.Reads as reads
-use Rattle.single.proofs.program.owner_verdict.Lts as lts
-use Rattle.exchange.proofs.jump.package_verdict.Reads as package-verdict-reads
-use Rattle.single.proofs.program.overlap_verdict.Reads as overlap-verdict-reads
+use Rattle.exchange.specs.Laws.Verdicts.{ready}
+use Rattle.single.specs.Program.{ownerVerdict}
+use Rattle.single.proofs.program.owner_verdict.Statement.{statement}
 
 returns : tie.Need-returns
-returns c = ?
+unfolding ownerVerdict
+returns c = rw (lt-ltb 65535 _ (c .if1 .taken))
 
 package-verdict-requires : tie.Need-package-verdict-requires
 package-verdict-requires c κs = search needs
@@ -16,16 +18,18 @@ enum-told : tie.Need-enum-told
 enum-told c = search needs
 
 overlap-verdict-requires : tie.Need-overlap-verdict-requires
-overlap-verdict-requires c κs = ?
+overlap-verdict-requires c κs = (ready _ _ (sym (c .before .before .package-verdict .ensures) ∙ c .enum-told .given .1), c .before .before .before .before .before .pre)
 
 enum-known-r : tie.Need-enum-known-r
 enum-known-r c = search needs
 
 returns-2 : tie.Need-returns-2
-returns-2 c = ?
+unfolding ownerVerdict
+returns-2 c = rw (le-ltb 65535 _ (c .before .before .before .before .if1 .left), ← c .before .before .before .package-verdict .ensures, c .before .enum-told .given .1) (c .overlap-verdict .ensures)
 
 returns-3 : tie.Need-returns-3
-returns-3 c = ?
+unfolding ownerVerdict
+returns-3 c = rw (le-ltb 65535 _ (c .before .before .before .before .if1 .left), ← c .before .before .before .package-verdict .ensures, c .before .r .given .1)
 
 pub owner-verdict-spec : {M : Type 1} → statement M
 owner-verdict-spec =

@@ -1,10 +1,10 @@
+-- `single::program::run_verdict` meets its contract. Assumes nothing.
+use mathlib.Core.Path.{_∙_, sym}
 use borrow.Author.Needs.{needs}
-use Rattle.single.proofs.program.run_verdict.Statement.{statement}
 use Rattle.single.proofs.program.run_verdict.Tie as tie
-use Rattle.single.proofs.program.run_verdict.Reads as reads
-use Rattle.single.proofs.program.run_verdict.Lts as lts
-use Rattle.exchange.proofs.record.host_verdict.Reads as host-verdict-reads
-use Rattle.single.proofs.program.owner_verdict.Reads as owner-verdict-reads
+use Rattle.exchange.specs.Laws.Verdicts.{lent}
+use Rattle.single.specs.Program.{runVerdict}
+use Rattle.single.proofs.program.run_verdict.Statement.{statement}
 
 host-verdict-requires : tie.Need-host-verdict-requires
 host-verdict-requires c κs = search needs
@@ -13,16 +13,18 @@ enum-told : tie.Need-enum-told
 enum-told c = search needs
 
 owner-verdict-requires : tie.Need-owner-verdict-requires
-owner-verdict-requires c κs = ?
+owner-verdict-requires c κs = lent _ _ (sym (c .before .before .host-verdict .ensures) ∙ c .enum-told .given .1) .most
 
 enum-known-r : tie.Need-enum-known-r
 enum-known-r c = search needs
 
 returns : tie.Need-returns
-returns c = ?
+unfolding runVerdict
+returns c = rw (← c .before .before .before .host-verdict .ensures, c .before .enum-told .given .1) (c .owner-verdict .ensures)
 
 returns-2 : tie.Need-returns-2
-returns-2 c = ?
+unfolding runVerdict
+returns-2 c = rw (← c .before .before .before .host-verdict .ensures, c .before .r .given .1)
 
 pub run-verdict-spec : {M : Type 1} → statement M
 run-verdict-spec =

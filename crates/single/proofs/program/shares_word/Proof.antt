@@ -1,26 +1,32 @@
+-- `single::program::shares_word` meets its contract. Assumes nothing.
+use native.Mathlib.Omega.{arith}
+use borrow.Author.Tests.{lt-ltb, le-ltb}
 use borrow.Author.Needs.{needs}
-use Rattle.single.proofs.program.shares_word.Statement.{statement}
 use Rattle.single.proofs.program.shares_word.Tie as tie
-use Rattle.single.proofs.program.shares_word.Reads as reads
-use Rattle.single.proofs.program.shares_word.Lts as lts
+use Rattle.single.specs.Overlap.{sharesWord}
+use Rattle.single.proofs.program.shares_word.Statement.{statement}
 
 returns : tie.Need-returns
-returns c = ?
+unfolding sharesWord
+returns c = rw (le-ltb 0 (c .before .args .n) (omega arith))
 
 returns-2 : tie.Need-returns-2
-returns-2 c = ?
+unfolding sharesWord
+returns-2 c = rw (lt-ltb 0 (c .before .before .args .n) (omega (arith, c .before .if1 .left)), le-ltb 0 (c .before .before .args .k) (omega arith))
 
 add-if3 : tie.Need-add-if3
 add-if3 c = search needs
 
 returns-3 : tie.Need-returns-3
-returns-3 c = ?
+unfolding sharesWord
+returns-3 c = rw (lt-ltb 0 (c .before .before .before .args .n) (omega (arith, c .before .before .if1 .left)), lt-ltb 0 (c .before .before .before .args .k) (omega (arith, c .before .if2 .left)), le-ltb _ _ (c .if3 .taken))
 
 add-result : tie.Need-add-result
 add-result c = search needs
 
 returns-4 : tie.Need-returns-4
-returns-4 c = ?
+unfolding sharesWord
+returns-4 c = rw (lt-ltb 0 (c .before .before .before .args .n) (omega (arith, c .before .before .if1 .left)), lt-ltb 0 (c .before .before .before .args .k) (omega (arith, c .before .if2 .left)), lt-ltb _ _ (c .if3 .left))
 
 pub shares-word-spec : {M : Type 1} → statement M
 shares-word-spec = tie.close (tie.spec returns returns-2 add-if3 returns-3 add-result returns-4)

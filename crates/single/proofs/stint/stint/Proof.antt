@@ -1,25 +1,23 @@
+-- `single::stint::stint` meets its contract. Assumes nothing.
 use borrow.Author.Needs.{needs}
-use Rattle.single.proofs.stint.stint.Statement.{statement}
 use Rattle.single.proofs.stint.stint.Tie as tie
-use Rattle.single.proofs.stint.stint.Reads as reads
-use Rattle.single.proofs.stint.stint.Lts as lts
-use Rattle.exchange.proofs.jump.exchange_jump.Reads as exchange-jump-reads
-use Rattle.single.proofs.field.run.Reads as run-reads
+use Rattle.single.specs.Laws.Stint.{stint-is, wide, may-run, may-exchange-out}
+use Rattle.single.proofs.stint.stint.Statement.{statement}
 
 exchange-jump-requires : tie.Need-exchange-jump-requires
-exchange-jump-requires c κs = ?
+exchange-jump-requires c κs = (c .before .before .pre .owner .inside, wide _ _ _ (c .before .before .pre))
 
 run-requires : tie.Need-run-requires
-run-requires c κs = ?
+run-requires c κs = may-run _ _ _ (c .before .before .before .before .before .before .pre) _ (c .before .before .before .exchange-jump .ensures)
 
 exchange-jump-requires-2 : tie.Need-exchange-jump-requires-2
-exchange-jump-requires-2 c κs = ?
+exchange-jump-requires-2 c κs = may-exchange-out _ _ _ (c .before .before .before .before .before .before .before .before .before .before .before .pre) _ _ _ (c .before .before .before .before .before .before .before .before .exchange-jump .ensures) (c .before .before .before .before .run .ensures)
 
 same-length : tie.Need-same-length
 same-length c = search needs
 
 returns : tie.Need-returns
-returns c = ?
+returns c = stint-is _ _ _ _ _ _ _ (c .before .before .before .before .before .before .before .before .before .before .before .exchange-jump .ensures) (c .before .before .before .before .before .before .before .run .ensures) (c .before .before .exchange-jump2 .ensures)
 
 pub stint-spec : {M : Type 1} → statement M
 stint-spec =

@@ -1,0 +1,20 @@
+-- What the test of two parts says. Assumes nothing.
+use mathlib.Core.Bool.{true, false, false≢true}
+use mathlib.Core.Logic.{⊎-elim}
+use mathlib.Core.Path.{_≡_, sym, _∙_}
+use Prim.Native.Nat.{ℕ, _+_, _≤_, _<_}
+use native.Mathlib.Omega.{arith}
+use borrow.Author.Tests.{lt-ltb}
+use Rattle.word.specs.Laws.Choice.{le-or-lt}
+use Rattle.single.specs.Overlap.{sharesWord}
+
+-- a word of both parts makes the test true
+pub shared : (a n b k i : ℕ) → a ≤ i → i < a + n → b ≤ i → i < b + k → sharesWord a n b k ≡ true
+unfolding sharesWord
+shared a n b k i ha hn hb hk =
+    rw (lt-ltb 0 n (omega arith), lt-ltb 0 k (omega arith), lt-ltb a (b + k) (omega arith), lt-ltb b (a + n) (omega arith))
+
+-- where it is false, a word of the first part that is not below the second is past its end
+pub past : (a n b k i : ℕ) → sharesWord a n b k ≡ false → a ≤ i → i < a + n → b ≤ i → b + k ≤ i
+past a n b k i h ha hn hb =
+    ⊎-elim (λ l. l) (λ l. absurd (false≢true (sym h ∙ shared a n b k i ha hn hb l))) (le-or-lt (b + k) i)
