@@ -51,7 +51,20 @@ module _ (m : List ℕ) (c : Central) (at : ℕ) (inside : at + 16 ≤ length m)
       ∙ rw (coded-decoded (part m at 16) (length-part m at 16 inside) h) (splice-part m at 16))
       (rw (part-splice m at 16 (coded c) inside long) (decoded-coded c w count))
 
--- the same, where nothing is refused
+-- the record of an accepted package fits
+module _ (m : List ℕ) (at : ℕ) (words : wordsFit m ≡ true) (owner : packageVerdict m at ≡ Call.Accepted) where
+  pub record-at-fits : recordFits (length m) (recordAt m at) ≡ true
+  record-at-fits =
+      let r = ready m at owner in
+      decoded-fits (part m at 16) (clean (part m at 16) (r .no-stray))
+      (part-lt m at 16 (2 ^ 60) (word-width m words))
+      (length m)
+      (r .field)
+
+  pub record-at-wide : Wide (recordAt m at)
+  record-at-wide = fits (length m) (recordAt m at) record-at-fits .wide
+
+-- the exchange of an accepted record at an accepted package
 module _ (m : List ℕ) (c : Central) (at : ℕ) (host : hostVerdict m c ≡ Call.Accepted) (owner : packageVerdict m at ≡ Call.Accepted) where
   wide : Wide c
   wide = fits (length m) c (lent m c host .fits) .wide
@@ -63,11 +76,7 @@ module _ (m : List ℕ) (c : Central) (at : ℕ) (host : hostVerdict m c ≡ Cal
   -- the record handed back fits
   pub exchange-record : recordFits (length m) (exchanged m c at .central) ≡ true
   unfolding exchanged
-  exchange-record =
-      let r = ready m at owner in
-      decoded-fits (part m at 16) (clean (part m at 16) (r .no-stray))
-      (part-lt m at 16 (2 ^ 60) (word-width m (lent m c host .words)))
-      (length m) (r .field)
+  exchange-record = record-at-fits m at (lent m c host .words) owner
 
   -- what was accepted is accepted after the exchange
   pub exchange-host : hostVerdict (exchanged m c at .memory) (exchanged m c at .central) ≡ Call.Accepted
