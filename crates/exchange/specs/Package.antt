@@ -42,12 +42,12 @@ decoded w =
     }
 
 -- the bits in use: up to P, RA, FL and EM in words 0 to 3, up to A in words 4 to 7
-abbrev pub cleanBits : ℕ → ℕ
-cleanBits n = cond (ltb n 4) 54 36
+abbrev pub bitsInUse : ℕ → ℕ
+bitsInUse n = cond (ltb n 4) 54 36
 
-abbrev pub wordIsClean : List ℕ → ℕ → Bool
-wordIsClean w n = ltb (getD w n 0) (2 ^ cleanBits n)
+abbrev pub wordHasNoStray : List ℕ → ℕ → Bool
+wordHasNoStray w n = ltb (getD w n 0) (2 ^ bitsInUse n)
 
 -- "All other bits, B0's included, are stray and must be zero."
 unfoldable pub hasStray : List ℕ → Bool
-hasStray w = not (all 8 (wordIsClean w) && eqb (bits (getD w 0 0) 0 18) 0 && emFits (controlIn w 3))
+hasStray w = not (all 8 (wordHasNoStray w) && eqb (bits (getD w 0 0) 0 18) 0 && emFits (controlIn w 3))

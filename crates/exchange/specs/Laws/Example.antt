@@ -29,8 +29,8 @@ pub record Example : Type 0 where
   pub loaded : decoded packageBefore ≡ recordBefore
   pub stored : coded recordAfter ≡ packageAfter
   pub loaded-again : decoded packageAfter ≡ recordAfter
-  pub clean : hasStray packageBefore ≡ false
+  pub no-stray : hasStray packageBefore ≡ false
 
 pub example : Example
 unfolding tabulate all emFits packageWord coded registerIn decoded hasStray
-example = record { loaded = refl; stored = refl; loaded-again = refl; clean = refl }
+example = record { loaded = refl; stored = refl; loaded-again = refl; no-stray = refl }
