@@ -33,6 +33,7 @@ fn register_in(w: &[u64], i: usize) -> u64
     word
 }
 
+// All 24 registers of a package.
 fn registers_in(w: &[u64]) -> [u64; 24]
     requires { ⌜ length (now w) ≡ 16 ⌝ }
     ensures { λ r. ⌜ r ≡ tabulate 24 (registerIn (now (w .entry))) ⌝ }
@@ -113,7 +114,7 @@ pub fn store(w: &mut [u64], c: Central)
     }
 }
 
-// One more than the highest number that word n of a package, 0 to 7, may be.
+// The first number with a bit above those in use in word n of a package, for 0 to 7.
 fn word_limit(n: usize) -> u64
     ensures { λ r. ⌜ r ≡ 2 ^ bitsInUse n ⌝ }
 {

@@ -79,8 +79,8 @@ module _ (m : List ℕ) (c : Central) (at : ℕ) (host : hostVerdict m c ≡ Cal
   exchange-record = record-at-fits m at (host-accepted m c host .words) owner
 
   -- what was accepted is accepted after the exchange
-  pub exchange-host : hostVerdict (exchanged m c at .memory) (exchanged m c at .central) ≡ Call.Accepted
-  exchange-host =
+  pub exchange-host-accepted : hostVerdict (exchanged m c at .memory) (exchanged m c at .central) ≡ Call.Accepted
+  exchange-host-accepted =
       let l = host-accepted m c host in
       let inside = package-accepted m at owner .inside in
       let same = exchange-length m c at inside in
@@ -92,8 +92,8 @@ module _ (m : List ℕ) (c : Central) (at : ℕ) (host : hostVerdict m c ≡ Cal
         fits = rw same exchange-record;
       })
 
-  pub exchange-owner : length (c .registers) ≡ 24 → packageVerdict (exchanged m c at .memory) at ≡ Call.Accepted
-  exchange-owner count =
+  pub exchange-package-accepted : length (c .registers) ≡ 24 → packageVerdict (exchanged m c at .memory) at ≡ Call.Accepted
+  exchange-package-accepted count =
       let inside = package-accepted m at owner .inside in
       let same = exchange-length m c at inside in
       let stored = exchange-package m c at inside in

@@ -99,7 +99,8 @@ module _ (c : Central) (w : FitsPackage c) where
       ext-getD 0 (tabulate 24 (registerIn (coded c))) (c .registers) (t ∙ sym l)
       (λ i h. getD-tabulate (registerIn (coded c)) 24 i (omega arith) ∙ register-back i (omega arith))
 
-record-path : (c d : Central) → c .p ≡ d .p → c .ra ≡ d .ra → c .fl ≡ d .fl → c .em ≡ d .em → c .registers ≡ d .registers → running c ≡ running d
+record-path : (c d : Central)
+    → c .p ≡ d .p → c .ra ≡ d .ra → c .fl ≡ d .fl → c .em ≡ d .em → c .registers ≡ d .registers → running c ≡ running d
 record-path c d p ra fl em registers = λ i. record { p = p i; ra = ra i; fl = fl i; em = em i; registers = registers i; stop = 0 }
 
 -- a record that goes into a package comes back, with the processor running
