@@ -5,3 +5,4 @@ pub mod Memory
 pub mod Package
 pub mod Verdicts
 pub mod Jump
+pub mod Example

@@ -26,6 +26,7 @@ unfoldable pub registerIn : List ℕ → ℕ → ℕ
 registerIn w i =
     cond (ltb i 8) (bits (getD w i 0) 18 18) (cond (ltb i 16) (bits (getD w (i - 8) 0) 0 18) (getD w (i - 8) 0))
 
+-- P, RA, FL or EM in word n
 abbrev pub controlIn : List ℕ → ℕ → ℕ
 controlIn w n = bits (getD w n 0) 36 18
 
@@ -41,13 +42,14 @@ decoded w =
       stop = 0;
     }
 
--- the bits in use: up to P, RA, FL and EM in words 0 to 3, up to A in words 4 to 7
-abbrev pub cleanBits : ℕ → ℕ
-cleanBits n = cond (ltb n 4) 54 36
+-- how many bits of word n are in use: up to P, RA, FL and EM in words 0 to 3, up to A in words 4 to 7
+abbrev pub bitsInUse : ℕ → ℕ
+bitsInUse n = cond (ltb n 4) 54 36
 
-abbrev pub wordIsClean : List ℕ → ℕ → Bool
-wordIsClean w n = ltb (getD w n 0) (2 ^ cleanBits n)
+-- no bit above those is set
+abbrev pub wordHasNoStray : List ℕ → ℕ → Bool
+wordHasNoStray w n = ltb (getD w n 0) (2 ^ bitsInUse n)
 
 -- "All other bits, B0's included, are stray and must be zero."
 unfoldable pub hasStray : List ℕ → Bool
-hasStray w = not (all 8 (wordIsClean w) && eqb (bits (getD w 0 0) 0 18) 0 && emFits (controlIn w 3))
+hasStray w = not (all 8 (wordHasNoStray w) && eqb (bits (getD w 0 0) 0 18) 0 && emFits (controlIn w 3))

@@ -54,7 +54,7 @@ recordFits length c =
     && registersFit (c .registers)
 
 -- the same without the stop and the length of memory: what is asked of a record that goes into a package
-pub record Wide (c : Central) : Type 0 where
+pub record FitsPackage (c : Central) : Type 0 where
   pub p-width : c .p < 2 ^ 18
   pub ra-width : c .ra < 2 ^ 18
   pub fl-width : c .fl < 2 ^ 18

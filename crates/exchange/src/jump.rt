@@ -9,7 +9,7 @@ ghost use mathlib.Core.Path.{_≡_};
 ghost use Prim.Native.Nat.{_+_, _≤_};
 ghost use lib.Dec.{leb};
 ghost use lib.ListN.{length};
-ghost use Rattle.exchange.specs.Record.{Wide};
+ghost use Rattle.exchange.specs.Record.{FitsPackage};
 ghost use Rattle.exchange.specs.Jump.{packageVerdict, exchangedTo, exchanged};
 
 // The sixteen words from this address up are in a memory of this length. The address is any number, so 16 is not added to it.
@@ -43,7 +43,7 @@ pub fn package_verdict(m: &[u64], at: u64) -> Verdict
 
 // Swaps the record and the package at this address, and hands back the record that the package held.
 pub fn exchange_jump(m: &mut [u64], c: Central, at: usize) -> Central
-    requires { ⌜ (at + 16 ≤ length (now m)) × Wide c ⌝ }
+    requires { ⌜ (at + 16 ≤ length (now m)) × FitsPackage c ⌝ }
     ensures { λ r. ⌜ exchangedTo (now (m .exit)) r ≡ exchanged (now (m .entry)) c at ⌝ }
 {
     let next = load(m, at);

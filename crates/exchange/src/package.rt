@@ -6,9 +6,9 @@ ghost use Prim.Native.Nat.{_+_, _^_, _≤_, _<_};
 ghost use lib.ListN.{length, getD};
 ghost use Rattle.word.specs.Bits.{bits};
 ghost use Rattle.exchange.specs.Indexed.{all, tabulate};
-ghost use Rattle.exchange.specs.Record.{Wide};
+ghost use Rattle.exchange.specs.Record.{FitsPackage};
 ghost use Rattle.exchange.specs.Memory.{part};
-ghost use Rattle.exchange.specs.Package.{controls, packageWord, coded, registerIn, decoded, cleanBits, wordIsClean, hasStray};
+ghost use Rattle.exchange.specs.Package.{controls, packageWord, coded, registerIn, decoded, bitsInUse, wordHasNoStray, hasStray};
 
 // The 18 bits of a word from this bit up.
 fn bits18(w: u64, first: u64) -> u64
@@ -33,6 +33,7 @@ fn register_in(w: &[u64], i: usize) -> u64
     word
 }
 
+// All 24 registers of a package.
 fn registers_in(w: &[u64]) -> [u64; 24]
     requires { ⌜ length (now w) ≡ 16 ⌝ }
     ensures { λ r. ⌜ r ≡ tabulate 24 (registerIn (now (w .entry))) ⌝ }
@@ -87,7 +88,7 @@ fn control(c: Central, n: usize) -> u64
 
 // Word n of the package that holds the record.
 fn package_word(c: Central, n: usize) -> u64
-    requires { ⌜ (n < 16) × Wide c ⌝ }
+    requires { ⌜ (n < 16) × FitsPackage c ⌝ }
     ensures { λ r. ⌜ r ≡ packageWord c n ⌝ }
 {
     if n < 8 {
@@ -102,7 +103,7 @@ fn package_word(c: Central, n: usize) -> u64
 
 // Makes the words a package that holds the record.
 pub fn store(w: &mut [u64], c: Central)
-    requires { ⌜ (length (now w) ≡ 16) × Wide c ⌝ }
+    requires { ⌜ (length (now w) ≡ 16) × FitsPackage c ⌝ }
     ensures { λ _. ⌜ now (w .exit) ≡ coded c ⌝ }
 {
     let mut n: usize = 0;
@@ -113,9 +114,9 @@ pub fn store(w: &mut [u64], c: Central)
     }
 }
 
-// One more than the highest number that word n of a package, 0 to 7, may be.
-fn clean_limit(n: usize) -> u64
-    ensures { λ r. ⌜ r ≡ 2 ^ cleanBits n ⌝ }
+// The first number with a bit above those in use in word n of a package, for 0 to 7.
+fn word_limit(n: usize) -> u64
+    ensures { λ r. ⌜ r ≡ 2 ^ bitsInUse n ⌝ }
 {
     if n < 4 {
         return 0o1000000000000000000;
@@ -124,13 +125,13 @@ fn clean_limit(n: usize) -> u64
 }
 
 // No bit is set above P, RA, FL and EM in words 0 to 3, and none above A in words 4 to 7.
-fn words_are_clean(w: &[u64]) -> bool
+fn words_have_no_stray(w: &[u64]) -> bool
     requires { ⌜ length (now w) ≡ 16 ⌝ }
-    ensures { λ r. ⌜ r ≡ all 8 (wordIsClean (now (w .entry))) ⌝ }
+    ensures { λ r. ⌜ r ≡ all 8 (wordHasNoStray (now (w .entry))) ⌝ }
 {
     let mut n: usize = 0;
     while n < 8 {
-        let limit = clean_limit(n);
+        let limit = word_limit(n);
         if limit <= w[n] {
             return false;
         }
@@ -146,7 +147,7 @@ pub fn package_has_stray(w: &[u64]) -> bool
 {
     let b0 = bits18(w[0], 0);
     let em = bits18(w[3], 36);
-    if words_are_clean(w) {
+    if words_have_no_stray(w) {
         if b0 == 0 {
             return !em_fits(em);
         }

@@ -6,14 +6,14 @@ use Prim.Native.Nat.{ℕ, _+_, _^_, _≤_, _<_}
 use lib.ListN.{length, getD}
 use Rattle.outcome.specs.declared.refusal.Verdict.the-variants as Call
 use Rattle.exchange.specs.declared.record.Central.{Central}
-use Rattle.exchange.specs.Record.{recordFits, wordsFit, running, Wide, hostVerdict}
+use Rattle.exchange.specs.Record.{recordFits, wordsFit, running, FitsPackage, hostVerdict}
 use Rattle.exchange.specs.Memory.{part, splice}
 use Rattle.exchange.specs.Package.{coded, hasStray}
 use Rattle.exchange.specs.Jump.{recordAt, packageVerdict, exchangedTo, exchanged}
 use Rattle.exchange.specs.Laws.Record.{fits, word-width, of-word-width}
 use Rattle.exchange.specs.Laws.Memory.{part-lt, length-part, splice-part, length-splice, part-splice, splice-splice, word-below, word-above, splice-lt}
-use Rattle.exchange.specs.Laws.Package.{length-coded, decoded-coded, coded-decoded, clean, decoded-fits, coded-clean, coded-lt}
-use Rattle.exchange.specs.Laws.Verdicts.{lent, of-lent, ready, of-ready}
+use Rattle.exchange.specs.Laws.Package.{length-coded, decoded-coded, coded-decoded, no-stray, decoded-fits, coded-no-stray, coded-lt}
+use Rattle.exchange.specs.Laws.Verdicts.{host-accepted, of-host-accepted, package-accepted, of-package-accepted}
 
 module _ (m : List ℕ) (c : Central) (at : ℕ) (inside : at + 16 ≤ length m) where
   pub exchange-length : length (exchanged m c at .memory) ≡ length m
@@ -34,14 +34,14 @@ module _ (m : List ℕ) (c : Central) (at : ℕ) (inside : at + 16 ≤ length m)
   unfolding exchanged
   exchange-above = word-above m at 16 (coded c) inside (length-coded c)
 
-  pub exchange-words : wordsFit m ≡ true → Wide c → wordsFit (exchanged m c at .memory) ≡ true
+  pub exchange-words : wordsFit m ≡ true → FitsPackage c → wordsFit (exchanged m c at .memory) ≡ true
   unfolding exchanged
   exchange-words h w =
       of-word-width (splice m at 16 (coded c))
       (splice-lt m at 16 (coded c) inside (length-coded c) (2 ^ 60) (word-width m h) (coded-lt c w))
 
   -- a second exchange at the same package gives memory and record back, with the processor running
-  pub exchange-back : Wide c → length (c .registers) ≡ 24 → hasStray (part m at 16) ≡ false
+  pub exchange-back : FitsPackage c → length (c .registers) ≡ 24 → hasStray (part m at 16) ≡ false
       → exchanged (exchanged m c at .memory) (exchanged m c at .central) at ≡ exchangedTo m (running c)
   unfolding exchanged
   exchange-back w count h =
@@ -51,46 +51,55 @@ module _ (m : List ℕ) (c : Central) (at : ℕ) (inside : at + 16 ≤ length m)
       ∙ rw (coded-decoded (part m at 16) (length-part m at 16 inside) h) (splice-part m at 16))
       (rw (part-splice m at 16 (coded c) inside long) (decoded-coded c w count))
 
--- the same, where nothing is refused
+-- the record of an accepted package fits
+module _ (m : List ℕ) (at : ℕ) (words : wordsFit m ≡ true) (owner : packageVerdict m at ≡ Call.Accepted) where
+  pub record-at-fits : recordFits (length m) (recordAt m at) ≡ true
+  record-at-fits =
+      let r = package-accepted m at owner in
+      decoded-fits (part m at 16) (no-stray (part m at 16) (r .no-stray))
+      (part-lt m at 16 (2 ^ 60) (word-width m words))
+      (length m)
+      (r .field)
+
+  pub record-at-fits-package : FitsPackage (recordAt m at)
+  record-at-fits-package = fits (length m) (recordAt m at) record-at-fits .fits-package
+
+-- the exchange of an accepted record at an accepted package
 module _ (m : List ℕ) (c : Central) (at : ℕ) (host : hostVerdict m c ≡ Call.Accepted) (owner : packageVerdict m at ≡ Call.Accepted) where
-  wide : Wide c
-  wide = fits (length m) c (lent m c host .fits) .wide
+  fits-package : FitsPackage c
+  fits-package = fits (length m) c (host-accepted m c host .fits) .fits-package
 
   pub exchange-twice : length (c .registers) ≡ 24
       → exchanged (exchanged m c at .memory) (exchanged m c at .central) at ≡ exchangedTo m (running c)
-  exchange-twice count = let r = ready m at owner in exchange-back m c at (r .inside) wide count (r .no-stray)
+  exchange-twice count = let r = package-accepted m at owner in exchange-back m c at (r .inside) fits-package count (r .no-stray)
 
   -- the record handed back fits
   pub exchange-record : recordFits (length m) (exchanged m c at .central) ≡ true
   unfolding exchanged
-  exchange-record =
-      let r = ready m at owner in
-      decoded-fits (part m at 16) (clean (part m at 16) (r .no-stray))
-      (part-lt m at 16 (2 ^ 60) (word-width m (lent m c host .words)))
-      (length m) (r .field)
+  exchange-record = record-at-fits m at (host-accepted m c host .words) owner
 
   -- what was accepted is accepted after the exchange
-  pub exchange-host : hostVerdict (exchanged m c at .memory) (exchanged m c at .central) ≡ Call.Accepted
-  exchange-host =
-      let l = lent m c host in
-      let inside = ready m at owner .inside in
+  pub exchange-host-accepted : hostVerdict (exchanged m c at .memory) (exchanged m c at .central) ≡ Call.Accepted
+  exchange-host-accepted =
+      let l = host-accepted m c host in
+      let inside = package-accepted m at owner .inside in
       let same = exchange-length m c at inside in
-      of-lent (exchanged m c at .memory) (exchanged m c at .central)
+      of-host-accepted (exchanged m c at .memory) (exchanged m c at .central)
       (record {
-        some = rw same (l .some);
-        most = rw same (l .most);
-        words = exchange-words m c at inside (l .words) wide;
+        nonempty = rw same (l .nonempty);
+        at-most = rw same (l .at-most);
+        words = exchange-words m c at inside (l .words) fits-package;
         fits = rw same exchange-record;
       })
 
-  pub exchange-owner : length (c .registers) ≡ 24 → packageVerdict (exchanged m c at .memory) at ≡ Call.Accepted
-  exchange-owner count =
-      let inside = ready m at owner .inside in
+  pub exchange-package-accepted : length (c .registers) ≡ 24 → packageVerdict (exchanged m c at .memory) at ≡ Call.Accepted
+  exchange-package-accepted count =
+      let inside = package-accepted m at owner .inside in
       let same = exchange-length m c at inside in
       let stored = exchange-package m c at inside in
-      of-ready (exchanged m c at .memory) at
+      of-package-accepted (exchanged m c at .memory) at
       (record {
         inside = rw same inside;
-        no-stray = rw stored (coded-clean c wide);
-        field = rw (stored, decoded-coded c wide count, same) (fits (length m) c (lent m c host .fits) .field);
+        no-stray = rw stored (coded-no-stray c fits-package);
+        field = rw (stored, decoded-coded c fits-package count, same) (fits (length m) c (host-accepted m c host .fits) .field);
       })

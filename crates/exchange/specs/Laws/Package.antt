@@ -16,12 +16,12 @@ use Rattle.word.specs.Laws.Bits.{bits-lt}
 use Rattle.word.specs.Laws.Choice.{of-getD, le-or-lt}
 use Rattle.exchange.specs.declared.record.Central.{Central}
 use Rattle.exchange.specs.Indexed.{all, tabulate}
-use Rattle.exchange.specs.Record.{aOf, bOf, xOf, emFits, registerWidth, recordFits, running, Wide}
-use Rattle.exchange.specs.Package.{controls, packageWord, coded, registerIn, controlIn, decoded, cleanBits, wordIsClean, hasStray}
+use Rattle.exchange.specs.Record.{aOf, bOf, xOf, emFits, registerWidth, recordFits, running, FitsPackage}
+use Rattle.exchange.specs.Package.{controls, packageWord, coded, registerIn, controlIn, decoded, bitsInUse, wordHasNoStray, hasStray}
 use Rattle.exchange.specs.Laws.Indexed.{both, all-at, all-of, length-tabulate, getD-tabulate}
 use Rattle.exchange.specs.Laws.Record.{each-register, em-width, a-width, b-width, x-width, of-fits}
 
-pub control-width : (c : Central) → Wide c → (n : ℕ) → getD (controls c) n 0 < 2 ^ 18
+pub control-width : (c : Central) → FitsPackage c → (n : ℕ) → getD (controls c) n 0 < 2 ^ 18
 control-width c w n =
     of-getD (λ v. v < 2 ^ 18) (controls c) n 0
     (w .p-width, (w .ra-width, (w .fl-width, (em-width (c .em) (w .em-fits), tt))))
@@ -65,7 +65,7 @@ module _ (c : Central) where
   upper-word n h = word-coded (8 + n) (omega arith) ∙ rw (le-ltb (8 + n) 8 (omega arith), add-sub-cancel-left)
 
 -- a record that goes into a package comes back
-module _ (c : Central) (w : Wide c) where
+module _ (c : Central) (w : FitsPackage c) where
   module _ (n : ℕ) (h : n < 8) where
     control-back : controlIn (coded c) n ≡ getD (controls c) n 0
     control-back =
@@ -99,11 +99,12 @@ module _ (c : Central) (w : Wide c) where
       ext-getD 0 (tabulate 24 (registerIn (coded c))) (c .registers) (t ∙ sym l)
       (λ i h. getD-tabulate (registerIn (coded c)) 24 i (omega arith) ∙ register-back i (omega arith))
 
-record-path : (c d : Central) → c .p ≡ d .p → c .ra ≡ d .ra → c .fl ≡ d .fl → c .em ≡ d .em → c .registers ≡ d .registers → running c ≡ running d
+record-path : (c d : Central)
+    → c .p ≡ d .p → c .ra ≡ d .ra → c .fl ≡ d .fl → c .em ≡ d .em → c .registers ≡ d .registers → running c ≡ running d
 record-path c d p ra fl em registers = λ i. record { p = p i; ra = ra i; fl = fl i; em = em i; registers = registers i; stop = 0 }
 
 -- a record that goes into a package comes back, with the processor running
-pub decoded-coded : (c : Central) → Wide c → length (c .registers) ≡ 24 → decoded (coded c) ≡ running c
+pub decoded-coded : (c : Central) → FitsPackage c → length (c .registers) ≡ 24 → decoded (coded c) ≡ running c
 unfolding decoded
 decoded-coded c w l =
     record-path (decoded (coded c)) c
@@ -114,27 +115,27 @@ decoded-coded c w l =
     (registers-back c w l)
 
 -- what the test for stray bits says of each word
-pub record Clean (w : List ℕ) : Type 0 where
-  pub word-width : (n : ℕ) → n < 8 → getD w n 0 < 2 ^ cleanBits n
+pub record NoStray (w : List ℕ) : Type 0 where
+  pub word-width : (n : ℕ) → n < 8 → getD w n 0 < 2 ^ bitsInUse n
   pub b0-zero : bits (getD w 0 0) 0 18 ≡ 0
   pub em-fits : emFits (controlIn w 3) ≡ true
 
-pub clean : (w : List ℕ) → hasStray w ≡ false → Clean w
+pub no-stray : (w : List ℕ) → hasStray w ≡ false → NoStray w
 unfolding hasStray
-clean w h =
-    let h₂ = both (all 8 (wordIsClean w) && eqb (bits (getD w 0 0) 0 18) 0) (emFits (controlIn w 3)) (not-false _ h) in
-    let h₁ = both (all 8 (wordIsClean w)) (eqb (bits (getD w 0 0) 0 18) 0) (h₂ .0) in
+no-stray w h =
+    let h₂ = both (all 8 (wordHasNoStray w) && eqb (bits (getD w 0 0) 0 18) 0) (emFits (controlIn w 3)) (not-false _ h) in
+    let h₁ = both (all 8 (wordHasNoStray w)) (eqb (bits (getD w 0 0) 0 18) 0) (h₂ .0) in
     record {
-      word-width = λ n l. ltb-true (getD w n 0) (2 ^ cleanBits n) (all-at (wordIsClean w) 8 (h₁ .0) n l);
+      word-width = λ n l. ltb-true (getD w n 0) (2 ^ bitsInUse n) (all-at (wordHasNoStray w) 8 (h₁ .0) n l);
       b0-zero = eqb-true (bits (getD w 0 0) 0 18) 0 (h₁ .1);
       em-fits = h₂ .1;
     }
 
-pub of-clean : (w : List ℕ) → Clean w → hasStray w ≡ false
+pub of-no-stray : (w : List ℕ) → NoStray w → hasStray w ≡ false
 unfolding hasStray
-of-clean w k =
+of-no-stray w k =
     rw (
-      all-of (wordIsClean w) 8 (λ n l. lt-ltb (getD w n 0) (2 ^ cleanBits n) (k .word-width n l)),
+      all-of (wordHasNoStray w) 8 (λ n l. lt-ltb (getD w n 0) (2 ^ bitsInUse n) (k .word-width n l)),
       eq-eqb (bits (getD w 0 0) 0 18) 0 (k .b0-zero),
       k .em-fits,
     )
@@ -171,7 +172,7 @@ module _ (w : List ℕ) where
         register-decoded (16 + n) (omega arith) ∙ rw (le-ltb (16 + n) 8 (omega arith), le-ltb (16 + n) 16 (omega arith), e)
 
 -- a package without stray bits comes back from its record
-module _ (w : List ℕ) (k : Clean w) where
+module _ (w : List ℕ) (k : NoStray w) where
   word-lt : (n : ℕ) → n < 4 → getD w n 0 < 2 ^ 54
   word-lt n h = rw (lt-ltb n 4 h) at (k .word-width n (omega arith))
 
@@ -196,10 +197,10 @@ module _ (w : List ℕ) (k : Clean w) where
 pub coded-decoded : (w : List ℕ) → length w ≡ 16 → hasStray w ≡ false → coded (decoded w) ≡ w
 coded-decoded w l h =
     let long = length-coded (decoded w) in
-    ext-getD 0 (coded (decoded w)) w (long ∙ sym l) (λ n b. word-back w (clean w h) n (omega arith))
+    ext-getD 0 (coded (decoded w)) w (long ∙ sym l) (λ n b. word-back w (no-stray w h) n (omega arith))
 
 -- the record of a package without stray bits has its widths
-module _ (w : List ℕ) (k : Clean w) (words : (i : ℕ) → getD w i 0 < 2 ^ 60) where
+module _ (w : List ℕ) (k : NoStray w) (words : (i : ℕ) → getD w i 0 < 2 ^ 60) where
   register-lt : (i : ℕ) → i < 24 → getD (decoded w .registers) i 0 < 2 ^ registerWidth i
   register-lt =
       each-register (λ i. getD (decoded w .registers) i 0 < 2 ^ registerWidth i)
@@ -207,9 +208,9 @@ module _ (w : List ℕ) (k : Clean w) (words : (i : ℕ) → getD w i 0 < 2 ^ 60
       (λ n h. rw (lt-ltb (8 + n) 16 (omega arith), b-decoded w n h) (bits-lt (getD w n 0) 0 18))
       (λ n h. rw (le-ltb (16 + n) 16 (omega arith), x-decoded w n h) (words (8 + n)))
 
-  pub decoded-wide : Wide (decoded w)
+  pub decoded-fits-package : FitsPackage (decoded w)
   unfolding decoded
-  decoded-wide =
+  decoded-fits-package =
       record {
         p-width = bits-lt (getD w 0 0) 36 18;
         ra-width = bits-lt (getD w 1 0) 36 18;
@@ -221,20 +222,20 @@ module _ (w : List ℕ) (k : Clean w) (words : (i : ℕ) → getD w i 0 < 2 ^ 60
 
   -- and passes number 5 where its field ends in memory
   pub decoded-fits : (n : ℕ) → decoded w .ra + decoded w .fl ≤ n → recordFits n (decoded w) ≡ true
-  decoded-fits n h = of-fits n (decoded w) (record { wide = decoded-wide; field = h; stop = omega (arith, stop-decoded w) })
+  decoded-fits n h = of-fits n (decoded w) (record { fits-package = decoded-fits-package; field = h; stop = omega (arith, stop-decoded w) })
 
 -- the package of a record that fits has no stray bits, and words of 60 bits
-module _ (c : Central) (w : Wide c) where
-  lower-lt : (n : ℕ) → n < 8 → getD (coded c) n 0 < 2 ^ cleanBits n
+module _ (c : Central) (w : FitsPackage c) where
+  lower-lt : (n : ℕ) → n < 8 → getD (coded c) n 0 < 2 ^ bitsInUse n
   lower-lt n h =
       ⊎-elim
       (λ g. rw (le-ltb n 4 g, lower-word c n h, List·getD-eq-default (controls c) 0 g) (omega (arith, a-width c w n h, b-width c w n h)))
       (λ g. rw (lt-ltb n 4 g, lower-word c n h) (omega (arith, control-width c w n, a-width c w n h, b-width c w n h)))
       (le-or-lt 4 n)
 
-  pub coded-clean : hasStray (coded c) ≡ false
-  coded-clean =
-      of-clean (coded c)
+  pub coded-no-stray : hasStray (coded c) ≡ false
+  coded-no-stray =
+      of-no-stray (coded c)
       (record {
         word-width = lower-lt;
         b0-zero = sym (b-decoded (coded c) 0 (lit< tt)) ∙ register-decoded (coded c) 8 (lit< tt) ∙ b-back c w 0 (lit< tt) ∙ w .b0-zero;

@@ -11,7 +11,7 @@ use lib.ListN.{length, getD, List·getD-eq-default}
 use Rattle.word.specs.Bits.{bits}
 use Rattle.word.specs.Laws.Choice.{le-or-lt}
 use Rattle.exchange.specs.declared.record.Central.{Central}
-use Rattle.exchange.specs.Record.{aOf, bOf, xOf, emFits, registerWidth, registerFits, registersFit, recordFits, Wide, wordFits, wordsFit}
+use Rattle.exchange.specs.Record.{aOf, bOf, xOf, emFits, registerWidth, registerFits, registersFit, recordFits, FitsPackage, wordFits, wordsFit}
 use Rattle.exchange.specs.Laws.Indexed.{both, all-at, all-of}
 
 -- what holds of the places of A, of B and of X holds of each of the 24 places
@@ -34,7 +34,7 @@ em-bits em h = eqb-true em (bits em 12 3 * 2 ^ 12) h
 pub em-width : (em : ℕ) → emFits em ≡ true → em < 2 ^ 18
 em-width em h = omega (arith, em-bits em h)
 
-module _ (c : Central) (w : Wide c) where
+module _ (c : Central) (w : FitsPackage c) where
   pub a-width : (n : ℕ) → n < 8 → aOf c n < 2 ^ 18
   a-width n h = rw (lt-ltb n 16 (omega arith)) at (w .register-width n (omega arith))
 
@@ -46,7 +46,7 @@ module _ (c : Central) (w : Wide c) where
 
 -- what number 5 lets by
 pub record Fits (n : ℕ) (c : Central) : Type 0 where
-  pub wide : Wide c
+  pub fits-package : FitsPackage c
   pub field : c .ra + c .fl ≤ n
   pub stop : c .stop ≤ 5
 
@@ -61,7 +61,7 @@ fits n c h =
     let h₂ = both (ltb (c .p) (2 ^ 18) && ltb (c .ra) (2 ^ 18)) (ltb (c .fl) (2 ^ 18)) (h₃ .0) in
     let h₁ = both (ltb (c .p) (2 ^ 18)) (ltb (c .ra) (2 ^ 18)) (h₂ .0) in
     record {
-      wide =
+      fits-package =
           record {
             p-width = ltb-true (c .p) (2 ^ 18) (h₁ .0);
             ra-width = ltb-true (c .ra) (2 ^ 18) (h₁ .1);
@@ -78,7 +78,7 @@ fits n c h =
 pub of-fits : (n : ℕ) (c : Central) → Fits n c → recordFits n c ≡ true
 unfolding recordFits registersFit
 of-fits n c f =
-    let w = f .wide in
+    let w = f .fits-package in
     rw (
       lt-ltb (c .p) (2 ^ 18) (w .p-width),
       lt-ltb (c .ra) (2 ^ 18) (w .ra-width),

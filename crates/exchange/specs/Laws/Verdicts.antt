@@ -28,41 +28,41 @@ by-fault true r v e = let z : _≡_ {A = ℕ} 0 1 = cc in absurd (omega arith)
 by-fault false r v e = (refl, e)
 
 -- numbers 1, 3 and 5 do not refuse
-pub record Lent (m : List ℕ) (c : Central) : Type 0 where
-  pub some : 1 ≤ length m
-  pub most : length m ≤ 131072
+pub record HostAccepted (m : List ℕ) (c : Central) : Type 0 where
+  pub nonempty : 1 ≤ length m
+  pub at-most : length m ≤ 131072
   pub words : wordsFit m ≡ true
   pub fits : recordFits (length m) c ≡ true
 
 -- numbers 9, 10 and 11 do not refuse
-pub record Ready (m : List ℕ) (at : ℕ) : Type 0 where
+pub record PackageAccepted (m : List ℕ) (at : ℕ) : Type 0 where
   pub inside : at + 16 ≤ length m
   pub no-stray : hasStray (part m at 16) ≡ false
   pub field : recordAt m at .ra + recordAt m at .fl ≤ length m
 
 module _ (m : List ℕ) (c : Central) where
-  pub lent : hostVerdict m c ≡ Call.Accepted → Lent m c
+  pub host-accepted : hostVerdict m c ≡ Call.Accepted → HostAccepted m c
   unfolding hostVerdict
-  lent e =
+  host-accepted e =
       let t₁ = by-test (leb 1 (length m) && leb (length m) 131072) _ _ e in
       let t₃ = by-test (wordsFit m) _ _ (t₁ .1) in
       let t₅ = by-test (recordFits (length m) c) _ _ (t₃ .1) in
       let b = both (leb 1 (length m)) (leb (length m) 131072) (t₁ .0) in
       record {
-        some = leb-true 1 (length m) (b .0);
-        most = leb-true (length m) 131072 (b .1);
+        nonempty = leb-true 1 (length m) (b .0);
+        at-most = leb-true (length m) 131072 (b .1);
         words = t₃ .0;
         fits = t₅ .0;
       }
 
-  pub of-lent : Lent m c → hostVerdict m c ≡ Call.Accepted
+  pub of-host-accepted : HostAccepted m c → hostVerdict m c ≡ Call.Accepted
   unfolding hostVerdict
-  of-lent l = rw (le-leb 1 (length m) (l .some), le-leb (length m) 131072 (l .most), l .words, l .fits)
+  of-host-accepted l = rw (le-leb 1 (length m) (l .nonempty), le-leb (length m) 131072 (l .at-most), l .words, l .fits)
 
 module _ (m : List ℕ) (at : ℕ) where
-  pub ready : packageVerdict m at ≡ Call.Accepted → Ready m at
+  pub package-accepted : packageVerdict m at ≡ Call.Accepted → PackageAccepted m at
   unfolding packageVerdict
-  ready e =
+  package-accepted e =
       let t₉ = by-test (leb (at + 16) (length m)) _ _ e in
       let t₁₀ = by-fault (hasStray (part m at 16)) _ _ (t₉ .1) in
       let t₁₁ = by-test (leb (recordAt m at .ra + recordAt m at .fl) (length m)) _ _ (t₁₀ .1) in
@@ -72,9 +72,9 @@ module _ (m : List ℕ) (at : ℕ) where
         field = leb-true (recordAt m at .ra + recordAt m at .fl) (length m) (t₁₁ .0);
       }
 
-  pub of-ready : Ready m at → packageVerdict m at ≡ Call.Accepted
+  pub of-package-accepted : PackageAccepted m at → packageVerdict m at ≡ Call.Accepted
   unfolding packageVerdict
-  of-ready r =
+  of-package-accepted r =
       rw (
         le-leb (at + 16) (length m) (r .inside),
         r .no-stray,

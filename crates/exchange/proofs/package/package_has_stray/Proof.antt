@@ -19,8 +19,8 @@ shared-slice-read-bits18-2 c = search needs
 bits18-requires-2 : tie.Need-bits18-requires-2
 bits18-requires-2 c κs = search needs
 
-words-are-clean-requires : tie.Need-words-are-clean-requires
-words-are-clean-requires c κs = search needs
+words-have-no-stray-requires : tie.Need-words-have-no-stray-requires
+words-have-no-stray-requires c κs = search needs
 
 em-fits-requires : tie.Need-em-fits-requires
 em-fits-requires c κs = search needs
@@ -29,7 +29,7 @@ returns : tie.Need-returns
 unfolding hasStray
 returns c =
     rw (
-      sym (c .before .before .before .words-are-clean .ensures) ∙ c .before .before .if1 .taken,
+      sym (c .before .before .before .words-have-no-stray .ensures) ∙ c .before .before .if1 .taken,
       eq-eqb _ 0 (sym (c .before .before .before .before .before .before .bits18 .ensures) ∙ c .before .if2 .taken),
       ← c .before .before .before .before .bits182 .ensures,
     )
@@ -39,14 +39,14 @@ returns-2 : tie.Need-returns-2
 unfolding hasStray
 returns-2 c =
     rw (
-      sym (c .before .before .words-are-clean .ensures) ∙ c .before .if1 .taken,
+      sym (c .before .before .words-have-no-stray .ensures) ∙ c .before .if1 .taken,
       ← c .before .before .before .before .before .bits18 .ensures,
       ne-eqb _ 0 (c .if2 .left),
     )
 
 returns-3 : tie.Need-returns-3
 unfolding hasStray
-returns-3 c = rw (sym (c .before .words-are-clean .ensures) ∙ c .if1 .left)
+returns-3 c = rw (sym (c .before .words-have-no-stray .ensures) ∙ c .if1 .left)
 
 pub package-has-stray-spec : {M : Type 1} → statement M
 package-has-stray-spec =
@@ -56,7 +56,7 @@ package-has-stray-spec =
     bits18-requires
     shared-slice-read-bits18-2
     bits18-requires-2
-    words-are-clean-requires
+    words-have-no-stray-requires
     em-fits-requires
     returns
     returns-2

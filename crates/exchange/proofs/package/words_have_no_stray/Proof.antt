@@ -1,4 +1,4 @@
--- `exchange::package::words_are_clean` meets its contract. Assumes nothing.
+-- `exchange::package::words_have_no_stray` meets its contract. Assumes nothing.
 use mathlib.Core.Bool.{true}
 use mathlib.Core.Path.{_≡_, refl, sym}
 use Prim.Native.Nat.{_≤_, _<_, _-_, _^_}
@@ -7,13 +7,13 @@ use borrow.Author.Needs.{needs}
 use borrow.Author.Tests.{lt-ltb, le-ltb}
 use lib.ListN.{getD}
 use Rattle.exchange.specs.Indexed.{all}
-use Rattle.exchange.specs.Package.{cleanBits, wordIsClean}
+use Rattle.exchange.specs.Package.{bitsInUse, wordHasNoStray}
 use Rattle.exchange.specs.Laws.Indexed.{all-more, all-not}
-use Rattle.exchange.proofs.package.words_are_clean.Statement.{statement}
-use Rattle.exchange.proofs.package.words_are_clean.Tie as tie
+use Rattle.exchange.proofs.package.words_have_no_stray.Statement.{statement}
+use Rattle.exchange.proofs.package.words_have_no_stray.Tie as tie
 
 abbrev Inv-loop : tie.InvT-loop
-Inv-loop w n₀ n = (n ≤ 8) × (all n (wordIsClean w) ≡ true)
+Inv-loop w n₀ n = (n ≤ 8) × (all n (wordHasNoStray w) ≡ true)
 
 abbrev μ-loop : tie.MeasureT-loop
 μ-loop w n₀ n = 8 - n
@@ -22,8 +22,8 @@ loop-holds : tie.Need-loop-holds Inv-loop μ-loop
 unfolding all
 loop-holds c = (omega arith, refl)
 
-clean-limit-requires : tie.Need-clean-limit-requires Inv-loop μ-loop
-clean-limit-requires c κs = search needs
+word-limit-requires : tie.Need-word-limit-requires Inv-loop μ-loop
+word-limit-requires c κs = search needs
 
 mul-if1 : tie.Need-mul-if1 Inv-loop μ-loop
 mul-if1 c = omega arith
@@ -35,8 +35,8 @@ returns : tie.Need-returns Inv-loop μ-loop
 returns c =
     let w = c .before .before .before .before .before .before .args .w .now in
     let n = c .before .before .before .before .loop .n in
-    let stray : 2 ^ cleanBits n ≤ getD w n 0 = rw (c .before .before .clean-limit .ensures) at (c .if1 .taken) in
-    sym (all-not (wordIsClean w) 8 n (c .before .before .before .loop-test .taken) (le-ltb (getD w n 0) (2 ^ cleanBits n) stray))
+    let stray : 2 ^ bitsInUse n ≤ getD w n 0 = rw (c .before .before .word-limit .ensures) at (c .if1 .taken) in
+    sym (all-not (wordHasNoStray w) 8 n (c .before .before .before .loop-test .taken) (le-ltb (getD w n 0) (2 ^ bitsInUse n) stray))
 
 add-n : tie.Need-add-n Inv-loop μ-loop
 add-n c = omega arith
@@ -48,9 +48,9 @@ loop-again : tie.Need-loop-again Inv-loop μ-loop
 loop-again c =
     let w = c .before .before .before .before .before .before .args .w .now in
     let n = c .before .before .before .before .loop .n in
-    let fits : getD w n 0 < 2 ^ cleanBits n = rw (c .before .before .clean-limit .ensures) at (c .if1 .left) in (
+    let fits : getD w n 0 < 2 ^ bitsInUse n = rw (c .before .before .word-limit .ensures) at (c .if1 .left) in (
       omega arith,
-      all-more (wordIsClean w) n (c .before .before .before .before .loop .inv .1) (lt-ltb (getD w n 0) (2 ^ cleanBits n) fits),
+      all-more (wordHasNoStray w) n (c .before .before .before .before .loop .inv .1) (lt-ltb (getD w n 0) (2 ^ bitsInUse n) fits),
     )
 
 returns-2 : tie.Need-returns-2 Inv-loop μ-loop
@@ -58,14 +58,14 @@ returns-2 c =
     let e : c .before .loop .n ≡ 8 = omega arith in
     sym (rw e at (c .before .loop .inv .1))
 
-pub words-are-clean-spec : {M : Type 1} → statement M
-words-are-clean-spec =
+pub words-have-no-stray-spec : {M : Type 1} → statement M
+words-have-no-stray-spec =
     tie.close
     (tie.spec
     Inv-loop
     μ-loop
     loop-holds
-    clean-limit-requires
+    word-limit-requires
     mul-if1
     shared-slice-read-if1
     returns
