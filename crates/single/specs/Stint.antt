@@ -4,7 +4,7 @@ use mathlib.Core.List.{List}
 use mathlib.Core.Path.{_≡_}
 use Prim.Native.Nat.{ℕ}
 use Rattle.exchange.specs.Jump.{recordAt, exchanged}
-use Rattle.exchange.specs.Laws.Verdicts.{Lent, Ready}
+use Rattle.exchange.specs.Laws.Verdicts.{HostAccepted, PackageAccepted}
 use Rattle.exchange.specs.declared.record.Central.{Central}
 use Rattle.single.specs.Overlap.{sharesWord}
 use Rattle.single.specs.Field.{RanMemory, ranOn}
@@ -37,6 +37,6 @@ stintOf m c at n = exchangedOut c at (ranOn (exchanged m c at .memory) (exchange
 
 -- what is asked of memory, record and package for a stint: no number refuses them
 pub record Accepted (m : List ℕ) (c : Central) (at : ℕ) : Type 0 where
-  pub host : Lent m c
-  pub owner : Ready m at
+  pub host : HostAccepted m c
+  pub owner : PackageAccepted m at
   pub apart : sharesWord at 16 (recordAt m at .ra) (recordAt m at .fl) ≡ false

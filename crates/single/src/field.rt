@@ -1,6 +1,6 @@
 // Turns of a central record on its field, the one part of memory that they are lent.
 ghost use mathlib.Core.Path.{_≡_};
-ghost use Rattle.exchange.specs.Laws.Verdicts.{Lent};
+ghost use Rattle.exchange.specs.Laws.Verdicts.{HostAccepted};
 ghost use Rattle.single.specs.Field.{ranOn, ranTo};
 use central::address::Bounds;
 use central::turn::turns;
@@ -14,7 +14,7 @@ pub struct Ran {
 
 // Up to n turns of a running processor.
 pub fn run(m: &mut [u64], c: Central, n: u64) -> Ran
-    requires { ⌜ Lent (now m) c ⌝ }
+    requires { ⌜ HostAccepted (now m) c ⌝ }
     ensures { λ o. ⌜ ranTo (now (m .exit)) o ≡ ranOn (now (m .entry)) c n ⌝ }
 {
     let b = Bounds {

@@ -1,6 +1,6 @@
 // The calls on the central record itself: one turn, one exchange jump.
 ghost use mathlib.Core.Path.{_≡_};
-ghost use Rattle.exchange.specs.Laws.Verdicts.{Lent};
+ghost use Rattle.exchange.specs.Laws.Verdicts.{HostAccepted};
 ghost use Rattle.single.specs.Host.{machine, turnedOnce, exchangeVerdict, answerTo, turnAnswer, exchangeAnswer};
 use super::field::run;
 use exchange::jump::exchange_jump;
@@ -17,7 +17,7 @@ pub struct Answer {
 
 // A stopped processor's turn changes nothing.
 fn turn_if_running(m: &mut [u64], c: Central) -> Central
-    requires { ⌜ Lent (now m) c ⌝ }
+    requires { ⌜ HostAccepted (now m) c ⌝ }
     ensures { λ r. ⌜ machine (now (m .exit)) r ≡ turnedOnce (now (m .entry)) c ⌝ }
 {
     if c.stop != 0 {

@@ -2,7 +2,7 @@
 ghost use mathlib.Core.Path.{_≡_};
 ghost use Prim.Native.Nat.{_+_, _≤_};
 ghost use lib.ListN.{length};
-ghost use Rattle.exchange.specs.Laws.Verdicts.{Ready};
+ghost use Rattle.exchange.specs.Laws.Verdicts.{PackageAccepted};
 ghost use Rattle.single.specs.Overlap.{sharesWord};
 ghost use Rattle.single.specs.Program.{overlapVerdict, ownerVerdict, runVerdict, runTo, runAnswer};
 use super::stint::stint;
@@ -40,7 +40,7 @@ fn shares_word(a: u64, n: u64, b: u64, k: u64) -> bool
 
 // Number 12: the package and the field of its own record.
 fn overlap_verdict(m: &[u64], at: usize) -> Verdict
-    requires { ⌜ Ready (now m) at ⌝ }
+    requires { ⌜ PackageAccepted (now m) at ⌝ }
     requires { ⌜ length (now m) ≤ 131072 ⌝ }
     ensures { λ r. ⌜ r ≡ overlapVerdict (now (m .entry)) at ⌝ }
 {

@@ -13,15 +13,15 @@ use Rattle.central.specs.State.{state}
 use Rattle.central.specs.Widths.{Kept}
 use Rattle.central.specs.Laws.Run.{RunLeft, run-left}
 use Rattle.exchange.specs.Memory.{part}
-use Rattle.exchange.specs.Record.{Wide, registerWidth}
+use Rattle.exchange.specs.Record.{FitsPackage, registerWidth}
 use Rattle.exchange.specs.Laws.Memory.{length-part, part-lt, length-splice, splice-lt, word-below, word-above}
 use Rattle.exchange.specs.Laws.Record.{Fits, fits, of-fits, word-width, of-word-width}
-use Rattle.exchange.specs.Laws.Verdicts.{Lent}
+use Rattle.exchange.specs.Laws.Verdicts.{HostAccepted}
 use Rattle.exchange.specs.declared.record.Central.{Central}
 use Rattle.single.specs.Field.{boundsOf, fieldRun, ranOn}
 
 -- registers as the central processor asks for them, from a record and back
-module _ (c : Central) (w : Wide c) (count : length (c .registers) ≡ 24) where
+module _ (c : Central) (w : FitsPackage c) (count : length (c .registers) ≡ 24) where
   short : (i : ℕ) → i < 16 → getD (c .registers) i 0 < 2 ^ 18
   short i h = rw (lt-ltb i 16 h) at (w .register-width i (omega arith))
 
@@ -39,7 +39,7 @@ register-width r w i =
     ⊎-elim (λ h. rw (le-ltb i 16 h) (w .long i)) (λ h. rw (lt-ltb i 16 h) (w .short i h)) (le-or-lt 16 i)
 
 -- a memory and a record as the host may lend them
-module _ (m : List ℕ) (c : Central) (l : Lent m c) where
+module _ (m : List ℕ) (c : Central) (l : HostAccepted m c) where
   fitting : Fits (length m) c
   fitting = fits (length m) c (l .fits)
 
@@ -47,56 +47,56 @@ module _ (m : List ℕ) (c : Central) (l : Lent m c) where
   field-inside = fitting .field
 
   pub field-room : c .ra + c .fl ≤ 131072
-  field-room = omega (arith, field-inside, l .most)
+  field-room = omega (arith, field-inside, l .at-most)
 
   pub p-short : c .p < 2 ^ 18
-  p-short = fitting .wide .p-width
+  p-short = fitting .fits-package .p-width
 
 -- turns on them
-module _ (m : List ℕ) (c : Central) (l : Lent m c) (count : length (c .registers) ≡ 24) where
+module _ (m : List ℕ) (c : Central) (l : HostAccepted m c) (count : length (c .registers) ≡ 24) where
   room : c .ra + c .fl ≤ length m
   room = field-inside m c l
 
   pub field-kept : Kept (c .fl) (state (c .registers) (part m (c .ra) (c .fl)))
   field-kept =
       record {
-        wide = registers-wide c (fitting m c l .wide) count;
+        wide = registers-wide c (fitting m c l .fits-package) count;
         words = record { word = part-lt m (c .ra) (c .fl) (2 ^ 60) (word-width m (l .words)) };
         size = length-part m (c .ra) (c .fl) room;
       }
 
   pub ran-left : (n : ℕ) → RunLeft (c .fl) (fieldRun m c n)
-  ran-left n = run-left (c .fl) (boundsOf c) (omega (arith, field-room m c l)) n (c .p) _ (fitting m c l .wide .p-width) field-kept
+  ran-left n = run-left (c .fl) (boundsOf c) (omega (arith, field-room m c l)) n (c .p) _ (fitting m c l .fits-package .p-width) field-kept
 
   pub ran-length : (n : ℕ) → length (ranOn m c n .memory) ≡ length m
   unfolding ranOn
   ran-length n = length-splice m (c .ra) (c .fl) (fieldRun m c n .state .field) room (ran-left n .kept .size)
 
-  pub ran-wide : (n : ℕ) → Wide (ranOn m c n .end .central)
+  pub ran-fits-package : (n : ℕ) → FitsPackage (ranOn m c n .end .central)
   unfolding ranOn
-  ran-wide n =
+  ran-fits-package n =
       let w = ran-left n .kept .wide in
       record {
         p-width = ran-left n .p;
-        ra-width = fitting m c l .wide .ra-width;
-        fl-width = fitting m c l .wide .fl-width;
-        em-fits = fitting m c l .wide .em-fits;
+        ra-width = fitting m c l .fits-package .ra-width;
+        fl-width = fitting m c l .fits-package .fl-width;
+        em-fits = fitting m c l .fits-package .em-fits;
         register-width = λ i h. register-width _ w i;
         b0-zero = w .b0;
       }
 
   -- widths, lengths, RA, FL, EM and B0 are kept: what is handed back may be lent again
-  pub ran-lent : (n : ℕ) → Lent (ranOn m c n .memory) (ranOn m c n .end .central)
+  pub ran-lent : (n : ℕ) → HostAccepted (ranOn m c n .memory) (ranOn m c n .end .central)
   unfolding ranOn
   ran-lent n =
       let size = ran-length n in
       record {
-        some = omega (arith, l .some, size);
-        most = omega (arith, l .most, size);
+        nonempty = omega (arith, l .nonempty, size);
+        at-most = omega (arith, l .at-most, size);
         words =
             of-word-width (ranOn m c n .memory)
             (splice-lt m (c .ra) (c .fl) (fieldRun m c n .state .field) room (ran-left n .kept .size) (2 ^ 60) (word-width m (l .words)) (ran-left n .kept .words .word));
-        fits = of-fits (length (ranOn m c n .memory)) (ranOn m c n .end .central) (record { wide = ran-wide n; field = omega (arith, room, size); stop = ran-left n .stop });
+        fits = of-fits (length (ranOn m c n .memory)) (ranOn m c n .end .central) (record { fits-package = ran-fits-package n; field = omega (arith, room, size); stop = ran-left n .stop });
       }
 
   -- no word outside the field changes

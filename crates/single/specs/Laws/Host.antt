@@ -11,7 +11,7 @@ use Rattle.central.specs.Laws.Run.{turns-one}
 use Rattle.exchange.specs.Memory.{part}
 use Rattle.exchange.specs.Record.{hostVerdict}
 use Rattle.exchange.specs.Jump.{packageVerdict}
-use Rattle.exchange.specs.Laws.Verdicts.{Lent, Ready, lent, ready}
+use Rattle.exchange.specs.Laws.Verdicts.{HostAccepted, PackageAccepted, host-accepted, package-accepted}
 use Rattle.exchange.specs.declared.record.Central.{Central}
 use Rattle.single.specs.Order.{orElse}
 use Rattle.single.specs.Field.{boundsOf, RanMemory, ranOn}
@@ -33,8 +33,8 @@ module _ (m : List ℕ) (c : Central) (at : ℕ) (e : exchangeVerdict m c at ≡
   unfolding exchangeVerdict
   parts = both-accept (hostVerdict m c) (packageVerdict m at) e
 
-  pub exchange-lent : Lent m c
-  exchange-lent = lent m c (parts .0)
+  pub exchange-lent : HostAccepted m c
+  exchange-lent = host-accepted m c (parts .0)
 
-  pub exchange-ready : Ready m at
-  exchange-ready = ready m at (parts .1)
+  pub exchange-ready : PackageAccepted m at
+  exchange-ready = package-accepted m at (parts .1)

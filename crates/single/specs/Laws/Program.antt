@@ -11,7 +11,7 @@ use Rattle.outcome.specs.declared.refusal.Refusal.{Refusal}
 use Rattle.outcome.specs.declared.refusal.Verdict.{Verdict}
 use Rattle.exchange.specs.Record.{hostVerdict}
 use Rattle.exchange.specs.Jump.{recordAt, packageVerdict}
-use Rattle.exchange.specs.Laws.Verdicts.{lent, ready}
+use Rattle.exchange.specs.Laws.Verdicts.{host-accepted, package-accepted}
 use Rattle.exchange.specs.declared.record.Central.{Central}
 use Rattle.single.specs.Overlap.{sharesWord}
 use Rattle.single.specs.Stint.{Accepted}
@@ -30,7 +30,7 @@ accepted m c at n e =
     let turns = by-fault (ltb 65535 n) Because.TooManyTurns _ (first .1) in
     let packages = both-accept (packageVerdict m at) (overlapVerdict m at) (turns .1) in
     record {
-      host = lent m c (first .0);
-      owner = ready m at (packages .0);
+      host = host-accepted m c (first .0);
+      owner = package-accepted m at (packages .0);
       apart = by-fault (sharesWord at 16 (recordAt m at .ra) (recordAt m at .fl)) Because.SharedWord Call.Accepted (packages .1) .0;
     }

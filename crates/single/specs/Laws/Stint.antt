@@ -9,17 +9,17 @@ use lib.Seq.{ext-getD}
 use Rattle.word.specs.Laws.Choice.{le-or-lt}
 use Rattle.exchange.specs.Memory.{part}
 use Rattle.exchange.specs.Package.{coded, decoded}
-use Rattle.exchange.specs.Record.{Wide}
+use Rattle.exchange.specs.Record.{FitsPackage}
 use Rattle.exchange.specs.Jump.{recordAt, Exchanged, exchanged}
 use Rattle.exchange.specs.Laws.Memory.{length-part, word-in-part}
 use Rattle.exchange.specs.Laws.Record.{fits}
 use Rattle.exchange.specs.Laws.Package.{count-decoded, decoded-coded}
-use Rattle.exchange.specs.Laws.Verdicts.{Lent, lent, of-lent, of-ready}
-use Rattle.exchange.specs.Laws.Jump.{exchange-length, exchange-package, exchange-below, exchange-above, exchange-host}
+use Rattle.exchange.specs.Laws.Verdicts.{HostAccepted, host-accepted, of-host-accepted, of-package-accepted}
+use Rattle.exchange.specs.Laws.Jump.{exchange-length, exchange-package, exchange-below, exchange-above, exchange-host-accepted}
 use Rattle.exchange.specs.declared.record.Central.{Central}
 use Rattle.single.specs.Field.{RanMemory, ranOn}
 use Rattle.single.specs.Stint.{stintTo, withStop, stintOf, Accepted}
-use Rattle.single.specs.Laws.Field.{ran-length, ran-wide, ran-below, ran-above}
+use Rattle.single.specs.Laws.Field.{ran-length, ran-fits-package, ran-below, ran-above}
 use Rattle.single.specs.Laws.Overlap.{past}
 
 -- exchanged in, run and exchanged out
@@ -31,15 +31,15 @@ unfolding stintOf
 stint-is m c at n i o x ei eo ex = rw (← ei, ← eo, ← ex)
 
 module _ (m : List ℕ) (c : Central) (at : ℕ) (a : Accepted m c at) where
-  pub wide : Wide c
-  wide = fits (length m) c (a .host .fits) .wide
+  pub fits-package : FitsPackage c
+  fits-package = fits (length m) c (a .host .fits) .fits-package
 
   in-length : length (exchanged m c at .memory) ≡ length m
   in-length = exchange-length m c at (a .owner .inside)
 
   -- the program's record and memory may be lent, as the host's may
-  pub in-lent : Lent (exchanged m c at .memory) (exchanged m c at .central)
-  in-lent = lent _ _ (exchange-host m c at (of-lent m c (a .host)) (of-ready m at (a .owner)))
+  pub in-lent : HostAccepted (exchanged m c at .memory) (exchanged m c at .central)
+  in-lent = host-accepted _ _ (exchange-host-accepted m c at (of-host-accepted m c (a .host)) (of-package-accepted m at (a .owner)))
 
   pub in-count : length (exchanged m c at .central .registers) ≡ 24
   unfolding exchanged
@@ -56,13 +56,13 @@ module _ (m : List ℕ) (c : Central) (at : ℕ) (a : Accepted m c at) where
   out-inside n = omega (arith, a .owner .inside, out-length n)
 
   -- the same by the results of the parts: the exchange in and the turns, then the exchange out, may be made
-  pub may-run : (i : Exchanged) → i ≡ exchanged m c at → Lent (i .memory) (i .central)
-  may-run i e = subst (λ (x : Exchanged). Lent (x .memory) (x .central)) (sym e) in-lent
+  pub may-run : (i : Exchanged) → i ≡ exchanged m c at → HostAccepted (i .memory) (i .central)
+  may-run i e = subst (λ (x : Exchanged). HostAccepted (x .memory) (x .central)) (sym e) in-lent
 
   pub may-exchange-out : (n : ℕ) (i : Exchanged) (o : RanMemory) → i ≡ exchanged m c at → o ≡ ranOn (i .memory) (i .central) n
-      → (at + 16 ≤ length (o .memory)) × Wide (o .end .central)
+      → (at + 16 ≤ length (o .memory)) × FitsPackage (o .end .central)
   may-exchange-out n i o ei eo =
-      rw (eo, ei) (out-inside n, ran-wide (exchanged m c at .memory) (exchanged m c at .central) in-lent in-count n)
+      rw (eo, ei) (out-inside n, ran-fits-package (exchanged m c at .memory) (exchanged m c at .central) in-lent in-count n)
 
   outside-field : (n i : ℕ) → (i < recordAt m at .ra) ⊎ (recordAt m at .ra + recordAt m at .fl ≤ i)
       → getD (ran n) i 0 ≡ getD (exchanged m c at .memory) i 0
@@ -93,7 +93,7 @@ module _ (m : List ℕ) (c : Central) (at : ℕ) (a : Accepted m c at) where
   pub stint-record : (n : ℕ) → length (c .registers) ≡ 24 → stintOf m c at n .end .central ≡ c
   unfolding stintOf exchanged
   stint-record n count =
-      ap (λ (r : Central). withStop r (c .stop)) (ap decoded (package-kept n) ∙ decoded-coded c wide count)
+      ap (λ (r : Central). withStop r (c .stop)) (ap decoded (package-kept n) ∙ decoded-coded c fits-package count)
 
   -- no word outside the package and the field changes
   pub stint-outside : (n i : ℕ) → (i < at) ⊎ (at + 16 ≤ i) → (i < recordAt m at .ra) ⊎ (recordAt m at .ra + recordAt m at .fl ≤ i)

@@ -2,7 +2,7 @@
 use mathlib.Core.Path.{_∙_, sym}
 use borrow.Author.Needs.{needs}
 use Rattle.single.proofs.host.central_turn.Tie as tie
-use Rattle.exchange.specs.Laws.Verdicts.{lent}
+use Rattle.exchange.specs.Laws.Verdicts.{host-accepted}
 use Rattle.single.specs.Host.{turnAnswer}
 use Rattle.single.proofs.host.central_turn.Statement.{statement}
 
@@ -13,7 +13,7 @@ enum-told : tie.Need-enum-told
 enum-told c = search needs
 
 turn-if-running-requires : tie.Need-turn-if-running-requires
-turn-if-running-requires c κs = lent _ _ (sym (c .before .before .before .host-verdict .ensures) ∙ c .before .enum-told .given .1)
+turn-if-running-requires c κs = host-accepted _ _ (sym (c .before .before .before .host-verdict .ensures) ∙ c .before .enum-told .given .1)
 
 enum-known-r : tie.Need-enum-known-r
 enum-known-r c = search needs

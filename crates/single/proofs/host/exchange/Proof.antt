@@ -14,7 +14,7 @@ enum-told : tie.Need-enum-told
 enum-told c = search needs
 
 exchange-jump-requires : tie.Need-exchange-jump-requires
-exchange-jump-requires c κs = let e = sym (c .before .before .before .exchange-verdict .ensures) ∙ c .before .enum-told .given .1 in (exchange-ready _ _ _ e .inside, fits _ _ (exchange-lent _ _ _ e .fits) .wide)
+exchange-jump-requires c κs = let e = sym (c .before .before .before .exchange-verdict .ensures) ∙ c .before .enum-told .given .1 in (exchange-ready _ _ _ e .inside, fits _ _ (exchange-lent _ _ _ e .fits) .fits-package)
 
 enum-known-r : tie.Need-enum-known-r
 enum-known-r c = search needs

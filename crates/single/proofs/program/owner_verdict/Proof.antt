@@ -3,7 +3,7 @@ use mathlib.Core.Path.{_∙_, sym}
 use borrow.Author.Tests.{lt-ltb, le-ltb}
 use borrow.Author.Needs.{needs}
 use Rattle.single.proofs.program.owner_verdict.Tie as tie
-use Rattle.exchange.specs.Laws.Verdicts.{ready}
+use Rattle.exchange.specs.Laws.Verdicts.{package-accepted}
 use Rattle.single.specs.Program.{ownerVerdict}
 use Rattle.single.proofs.program.owner_verdict.Statement.{statement}
 
@@ -18,7 +18,7 @@ enum-told : tie.Need-enum-told
 enum-told c = search needs
 
 overlap-verdict-requires : tie.Need-overlap-verdict-requires
-overlap-verdict-requires c κs = (ready _ _ (sym (c .before .before .package-verdict .ensures) ∙ c .enum-told .given .1), c .before .before .before .before .before .pre)
+overlap-verdict-requires c κs = (package-accepted _ _ (sym (c .before .before .package-verdict .ensures) ∙ c .enum-told .given .1), c .before .before .before .before .before .pre)
 
 enum-known-r : tie.Need-enum-known-r
 enum-known-r c = search needs

@@ -2,7 +2,7 @@
 use mathlib.Core.Path.{_∙_, sym}
 use borrow.Author.Needs.{needs}
 use Rattle.single.proofs.program.run_verdict.Tie as tie
-use Rattle.exchange.specs.Laws.Verdicts.{lent}
+use Rattle.exchange.specs.Laws.Verdicts.{host-accepted}
 use Rattle.single.specs.Program.{runVerdict}
 use Rattle.single.proofs.program.run_verdict.Statement.{statement}
 
@@ -13,7 +13,7 @@ enum-told : tie.Need-enum-told
 enum-told c = search needs
 
 owner-verdict-requires : tie.Need-owner-verdict-requires
-owner-verdict-requires c κs = lent _ _ (sym (c .before .before .host-verdict .ensures) ∙ c .enum-told .given .1) .most
+owner-verdict-requires c κs = host-accepted _ _ (sym (c .before .before .host-verdict .ensures) ∙ c .enum-told .given .1) .at-most
 
 enum-known-r : tie.Need-enum-known-r
 enum-known-r c = search needs

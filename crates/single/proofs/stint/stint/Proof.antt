@@ -1,11 +1,11 @@
 -- `single::stint::stint` meets its contract. Assumes nothing.
 use borrow.Author.Needs.{needs}
 use Rattle.single.proofs.stint.stint.Tie as tie
-use Rattle.single.specs.Laws.Stint.{stint-is, wide, may-run, may-exchange-out}
+use Rattle.single.specs.Laws.Stint.{stint-is, fits-package, may-run, may-exchange-out}
 use Rattle.single.proofs.stint.stint.Statement.{statement}
 
 exchange-jump-requires : tie.Need-exchange-jump-requires
-exchange-jump-requires c κs = (c .before .before .pre .owner .inside, wide _ _ _ (c .before .before .pre))
+exchange-jump-requires c κs = (c .before .before .pre .owner .inside, fits-package _ _ _ (c .before .before .pre))
 
 run-requires : tie.Need-run-requires
 run-requires c κs = may-run _ _ _ (c .before .before .before .before .before .before .pre) _ (c .before .before .before .exchange-jump .ensures)
