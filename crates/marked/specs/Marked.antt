@@ -1,16 +1,25 @@
 -- The twelve marked results of document 01 as one table, `Marked`, with one theorem that all hold, `marked`.
--- Still to come, with the central turn: 010 to K = 2 at P = 0, and P = FL - 1 and P = FL. With the peripheral turn: SOD on a processor's
--- memory; its two sums are here.
+-- Still to come, with the peripheral turn: SOD on a processor's memory; its two sums are here.
 -- Assumes nothing.
 use mathlib.Core.Path.{_≡_, refl}
-use Prim.Native.Nat.{ℕ, _^_, _≤_, _<_}
+use mathlib.Core.List.{List, _∷_}
+use Prim.Native.Nat.{ℕ, _+_, _-_, _^_, _≤_, _<_}
 use native.Mathlib.Omega.{arith}
-use borrow.Author.Tests.{le-leb}
+use borrow.Author.Tests.{le-leb, lt-ltb, le-ltb}
 use lib.Count.{onesIn}
+use lib.ListN.{getD, set}
 use Rattle.word.specs.Bits.{low}
 use Rattle.word.specs.Sums.{complement, sum, difference}
 use Rattle.word.specs.Shifts.{rotateLeft, mask, shiftRightSigned, shiftA, countOnes}
 use Rattle.word.specs.Floating.{magnitude, coefficientOf, exponentFrom, exponentOf}
+use Rattle.central.specs.State.{State, state}
+use Rattle.central.specs.Instruction.{constantAt, decoded, isLong, isLeftOut, isFit, parcelsOf}
+use Rattle.central.specs.Effects.{branchOf, effectOf}
+use Rattle.central.specs.Address.{placeOf}
+use Rattle.central.specs.Apply.{returnJumped, applied}
+use Rattle.central.specs.Turn.{ranAt, turned, turnEnd, parcelsRun, wordRun, turnOf}
+use Rattle.central.specs.Laws.Place.{bounds}
+use Rattle.central.specs.declared.address.Bounds.{Bounds}
 
 pub record Marked : Type 0 where
   -- 3 plus its complement is +0, at both widths
@@ -30,12 +39,24 @@ pub record Marked : Type 0 where
   -- SOD of 0 leaves A 777776, memory 7776
   sod-a : difference 18 0 1 ≡ 0o777776
   sod-memory : low 12 (difference 18 0 1) ≡ 0o7776
+  -- 010 to K = 2 at P = 0 writes 04000000010000000000, P is 3: the word 01000000020000000000 in a field of 10 words, whatever the
+  -- registers, the other words, RA and EM
+  return-jump : (r : List ℕ) (f : List ℕ) (ra em : ℕ)
+      → turnOf (bounds ra 0o10 em) 0 (state r (0o01000000020000000000 ∷ f))
+      ≡ turned (state r (set (0o01000000020000000000 ∷ f) 2 0o04000000010000000000)) (turnEnd 3 0)
+  -- P = FL - 1 fetches: the turn is that of the word there
+  last-word : (b : Bounds) (s : State) → 0 < b .fl → turnOf b (b .fl - 1) s ≡ wordRun b (b .fl - 1) (getD (s .field) (b .fl - 1) 0) s
+  -- P = FL stops with 3, and nothing else changes
+  past-last-word : (b : Bounds) (s : State) → turnOf b (b .fl) s ≡ turned s (turnEnd (b .fl) 3)
   -- 26 of 17760000000000000005 gives 5 and 777776
   unpacked-coefficient : coefficientOf 0o17760000000000000005 ≡ 5
   unpacked-exponent : exponentOf 0o17760000000000000005 ≡ 0o777776
 
+back : (ra n : ℕ) → ra + n - ra ≡ n
+back ra n = omega arith
+
 pub marked : Marked
-unfolding sum rotateLeft mask shiftRightSigned shiftA onesIn magnitude coefficientOf exponentFrom exponentOf
+unfolding sum rotateLeft mask shiftRightSigned shiftA onesIn magnitude coefficientOf exponentFrom exponentOf turnOf placeOf parcelsRun ranAt decoded constantAt isFit isLeftOut isLong parcelsOf effectOf branchOf applied returnJumped
 marked =
     record {
       three-18 = refl;
@@ -49,6 +70,9 @@ marked =
       shn-71 = refl;
       sod-a = refl;
       sod-memory = refl;
+      return-jump = λ r f ra em. rw (back ra 0, back ra 2);
+      last-word = λ b s h. rw (lt-ltb (b .fl - 1) (b .fl) (omega arith), back (b .ra) (b .fl - 1));
+      past-last-word = λ b s. rw (le-ltb (b .fl) (b .fl) (omega arith));
       unpacked-coefficient = refl;
       unpacked-exponent = refl;
     }

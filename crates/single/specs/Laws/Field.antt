@@ -1,7 +1,7 @@
 -- Turns on a field leave what the host lends as it may be lent, and change no word outside the field. Assumes nothing.
 use mathlib.Core.List.{List}
 use mathlib.Core.Logic.{_⊎_, ⊎-elim}
-use mathlib.Core.Path.{_≡_}
+use mathlib.Core.Path.{_≡_, sym, ap, _∙_}
 use Prim.Native.Nat.{ℕ, _+_, _-_, _^_, _≤_, _<_}
 use native.Mathlib.Omega.{arith}
 use borrow.Author.Tests.{lt-ltb, le-ltb}
@@ -10,11 +10,12 @@ use lib.Dec.{lit<}
 use Rattle.word.specs.Laws.Choice.{le-or-lt}
 use Rattle.central.specs.Widths as Central
 use Rattle.central.specs.State.{state}
+use Rattle.central.specs.Turn.{Run}
 use Rattle.central.specs.Widths.{Kept}
 use Rattle.central.specs.Laws.Run.{RunLeft, run-left}
 use Rattle.exchange.specs.Memory.{part}
 use Rattle.exchange.specs.Record.{FitsPackage, registerWidth}
-use Rattle.exchange.specs.Laws.Memory.{length-part, part-lt, length-splice, splice-lt, word-below, word-above}
+use Rattle.exchange.specs.Laws.Memory.{length-part, part-lt, part-splice, length-splice, splice-lt, word-below, word-above}
 use Rattle.exchange.specs.Laws.Record.{Fits, fits, of-fits, word-width, of-word-width}
 use Rattle.exchange.specs.Laws.Verdicts.{HostAccepted}
 use Rattle.exchange.specs.declared.record.Central.{Central}
@@ -86,9 +87,9 @@ module _ (m : List ℕ) (c : Central) (l : HostAccepted m c) (count : length (c 
       }
 
   -- widths, lengths, RA, FL, EM and B0 are kept: what is handed back may be lent again
-  pub ran-lent : (n : ℕ) → HostAccepted (ranOn m c n .memory) (ranOn m c n .end .central)
+  pub ran-accepted : (n : ℕ) → HostAccepted (ranOn m c n .memory) (ranOn m c n .end .central)
   unfolding ranOn
-  ran-lent n =
+  ran-accepted n =
       let size = ran-length n in
       record {
         nonempty = omega (arith, l .nonempty, size);
@@ -111,3 +112,20 @@ module _ (m : List ℕ) (c : Central) (l : HostAccepted m c) (count : length (c 
 -- the part lent as `&mut m[ra..ra + fl]`
 pub lent-part : (c : Central) → c .ra + c .fl - c .ra ≡ c .fl
 lent-part c = omega arith
+
+-- turns depend on the record and its field alone: in another memory with the same field they end alike
+module _ (m m′ : List ℕ) (c : Central) (alike : part m (c .ra) (c .fl) ≡ part m′ (c .ra) (c .fl)) where
+  same-run : (n : ℕ) → fieldRun m c n ≡ fieldRun m′ c n
+  same-run n = rw alike
+
+  pub ran-alike : (n : ℕ) → ranOn m c n .end ≡ ranOn m′ c n .end
+  unfolding ranOn
+  ran-alike n = rw (same-run n)
+
+  pub field-alike : HostAccepted m c → HostAccepted m′ c → length (c .registers) ≡ 24
+      → (n : ℕ) → part (ranOn m c n .memory) (c .ra) (c .fl) ≡ part (ranOn m′ c n .memory) (c .ra) (c .fl)
+  unfolding ranOn
+  field-alike l l′ count n =
+      part-splice m (c .ra) (c .fl) (fieldRun m c n .state .field) (field-inside m c l) (ran-left m c l count n .kept .size)
+      ∙ ap (λ (o : Run). o .state .field) (same-run n)
+      ∙ sym (part-splice m′ (c .ra) (c .fl) (fieldRun m′ c n .state .field) (field-inside m′ c l′) (ran-left m′ c l′ count n .kept .size))

@@ -1,10 +1,12 @@
 -- The call that runs one program: what an accepted call is, and its promises in a reader's words. Assumes nothing.
 use mathlib.Core.Bool.{Bool, true, false, cond}
 use mathlib.Core.List.{List}
+use mathlib.Core.Logic.{_⊎_}
 use mathlib.Core.Path.{_≡_, refl}
-use Prim.Native.Nat.{ℕ}
+use Prim.Native.Nat.{ℕ, _+_, _≤_, _<_}
 use native.Mathlib.Omega.{arith}
 use lib.Dec.{ltb}
+use lib.ListN.{length, getD}
 use Rattle.outcome.specs.declared.refusal.Refusal.the-variants as Because
 use Rattle.outcome.specs.declared.refusal.Verdict.the-variants as Call
 use Rattle.outcome.specs.declared.refusal.Refusal.{Refusal}
@@ -14,8 +16,9 @@ use Rattle.exchange.specs.Jump.{recordAt, packageVerdict}
 use Rattle.exchange.specs.Laws.Verdicts.{host-accepted, package-accepted}
 use Rattle.exchange.specs.declared.record.Central.{Central}
 use Rattle.single.specs.Overlap.{sharesWord}
-use Rattle.single.specs.Stint.{Accepted}
-use Rattle.single.specs.Program.{overlapVerdict, ownerVerdict, runVerdict}
+use Rattle.single.specs.Stint.{stintOf, Accepted}
+use Rattle.single.specs.Program.{overlapVerdict, ownerVerdict, runVerdict, runAnswerBy, runAnswer}
+use Rattle.single.specs.Laws.Stint.{stint-record, stint-outside}
 use Rattle.single.specs.Laws.Host.{both-accept}
 
 -- accepted where a fault is not found
@@ -34,3 +37,25 @@ accepted m c at n e =
       owner = package-accepted m at (packages .0);
       apart = by-fault (sharesWord at 16 (recordAt m at .ra) (recordAt m at .fl)) Because.SharedWord Call.Accepted (packages .1) .0;
     }
+
+module _ (m : List ℕ) (c : Central) (at n : ℕ) where
+  record-by : (v : Verdict) → runVerdict m c at n ≡ v → length (c .registers) ≡ 24 → runAnswerBy v m c (stintOf m c at n) .answer .central ≡ c
+  record-by Call.Accepted e count = stint-record m c at (accepted m c at n e) n count
+  record-by (Call.Refused r) e count = refl
+
+  -- "hands the central record back as it was, stop included": accepted or refused
+  pub run-record : length (c .registers) ≡ 24 → runAnswer m c at n .answer .central ≡ c
+  unfolding runAnswer
+  run-record count = record-by (runVerdict m c at n) refl count
+
+  outside-by : (v : Verdict) → runVerdict m c at n ≡ v → (i : ℕ) → (i < at) ⊎ (at + 16 ≤ i)
+      → (i < recordAt m at .ra) ⊎ (recordAt m at .ra + recordAt m at .fl ≤ i)
+      → getD (runAnswerBy v m c (stintOf m c at n) .memory) i 0 ≡ getD m i 0
+  outside-by Call.Accepted e i p f = stint-outside m c at (accepted m c at n e) n i p f
+  outside-by (Call.Refused r) e i p f = refl
+
+  -- no word outside the package and its field changes
+  pub run-outside : (i : ℕ) → (i < at) ⊎ (at + 16 ≤ i) → (i < recordAt m at .ra) ⊎ (recordAt m at .ra + recordAt m at .fl ≤ i)
+      → getD (runAnswer m c at n .memory) i 0 ≡ getD m i 0
+  unfolding runAnswer
+  run-outside = outside-by (runVerdict m c at n) refl

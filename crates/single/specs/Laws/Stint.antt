@@ -38,8 +38,8 @@ module _ (m : List ℕ) (c : Central) (at : ℕ) (a : Accepted m c at) where
   in-length = exchange-length m c at (a .owner .inside)
 
   -- the program's record and memory may be lent, as the host's may
-  pub in-lent : HostAccepted (exchanged m c at .memory) (exchanged m c at .central)
-  in-lent = host-accepted _ _ (exchange-host-accepted m c at (of-host-accepted m c (a .host)) (of-package-accepted m at (a .owner)))
+  pub in-accepted : HostAccepted (exchanged m c at .memory) (exchanged m c at .central)
+  in-accepted = host-accepted _ _ (exchange-host-accepted m c at (of-host-accepted m c (a .host)) (of-package-accepted m at (a .owner)))
 
   pub in-count : length (exchanged m c at .central .registers) ≡ 24
   unfolding exchanged
@@ -50,31 +50,31 @@ module _ (m : List ℕ) (c : Central) (at : ℕ) (a : Accepted m c at) where
   ran n = ranOn (exchanged m c at .memory) (exchanged m c at .central) n .memory
 
   out-length : (n : ℕ) → length (ran n) ≡ length m
-  out-length n = ran-length _ _ in-lent in-count n ∙ in-length
+  out-length n = ran-length _ _ in-accepted in-count n ∙ in-length
 
   out-inside : (n : ℕ) → at + 16 ≤ length (ran n)
   out-inside n = omega (arith, a .owner .inside, out-length n)
 
   -- the same by the results of the parts: the exchange in and the turns, then the exchange out, may be made
   pub may-run : (i : Exchanged) → i ≡ exchanged m c at → HostAccepted (i .memory) (i .central)
-  may-run i e = subst (λ (x : Exchanged). HostAccepted (x .memory) (x .central)) (sym e) in-lent
+  may-run i e = subst (λ (x : Exchanged). HostAccepted (x .memory) (x .central)) (sym e) in-accepted
 
   pub may-exchange-out : (n : ℕ) (i : Exchanged) (o : RanMemory) → i ≡ exchanged m c at → o ≡ ranOn (i .memory) (i .central) n
       → (at + 16 ≤ length (o .memory)) × FitsPackage (o .end .central)
   may-exchange-out n i o ei eo =
-      rw (eo, ei) (out-inside n, ran-fits-package (exchanged m c at .memory) (exchanged m c at .central) in-lent in-count n)
+      rw (eo, ei) (out-inside n, ran-fits-package (exchanged m c at .memory) (exchanged m c at .central) in-accepted in-count n)
 
   outside-field : (n i : ℕ) → (i < recordAt m at .ra) ⊎ (recordAt m at .ra + recordAt m at .fl ≤ i)
       → getD (ran n) i 0 ≡ getD (exchanged m c at .memory) i 0
   unfolding exchanged
-  outside-field n i f = ⊎-elim (ran-below _ _ in-lent in-count n i) (ran-above _ _ in-lent in-count n i) f
+  outside-field n i f = ⊎-elim (ran-below _ _ in-accepted in-count n i) (ran-above _ _ in-accepted in-count n i) f
 
   -- the turns leave the package
   package-word : (n i : ℕ) → at ≤ i → i < at + 16 → getD (ran n) i 0 ≡ getD (exchanged m c at .memory) i 0
   unfolding exchanged
   package-word n i l h =
-      ⊎-elim (λ g. ran-above _ _ in-lent in-count n i (past at 16 _ _ i (a .apart) l h g))
-      (λ g. ran-below _ _ in-lent in-count n i g) (le-or-lt (exchanged m c at .central .ra) i)
+      ⊎-elim (λ g. ran-above _ _ in-accepted in-count n i (past at 16 _ _ i (a .apart) l h g))
+      (λ g. ran-below _ _ in-accepted in-count n i g) (le-or-lt (exchanged m c at .central .ra) i)
 
   package-kept : (n : ℕ) → part (ran n) at 16 ≡ coded c
   package-kept n =

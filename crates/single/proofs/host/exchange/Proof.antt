@@ -4,7 +4,7 @@ use borrow.Author.Needs.{needs}
 use Rattle.single.proofs.host.exchange.Tie as tie
 use Rattle.exchange.specs.Laws.Record.{fits}
 use Rattle.single.specs.Host.{exchangeAnswer}
-use Rattle.single.specs.Laws.Host.{exchange-lent, exchange-ready}
+use Rattle.single.specs.Laws.Host.{exchange-host, exchange-owner}
 use Rattle.single.proofs.host.exchange.Statement.{statement}
 
 exchange-verdict-requires : tie.Need-exchange-verdict-requires
@@ -14,7 +14,7 @@ enum-told : tie.Need-enum-told
 enum-told c = search needs
 
 exchange-jump-requires : tie.Need-exchange-jump-requires
-exchange-jump-requires c κs = let e = sym (c .before .before .before .exchange-verdict .ensures) ∙ c .before .enum-told .given .1 in (exchange-ready _ _ _ e .inside, fits _ _ (exchange-lent _ _ _ e .fits) .fits-package)
+exchange-jump-requires c κs = let e = sym (c .before .before .before .exchange-verdict .ensures) ∙ c .before .enum-told .given .1 in (exchange-owner _ _ _ e .inside, fits _ _ (exchange-host _ _ _ e .fits) .fits-package)
 
 enum-known-r : tie.Need-enum-known-r
 enum-known-r c = search needs
