@@ -19,13 +19,19 @@ enum-known-e-3 : tie.Need-enum-known-e-3
 enum-known-e-3 c = search needs
 
 return-jump-requires : tie.Need-return-jump-requires
-return-jump-requires c κs = (c .before .before .before .before .before .pre .0, subst Sound (c .before .before .e3 .given .1) (c .before .before .before .before .before .pre .1) .0)
+return-jump-requires c κs =
+    let pre = c .before .before .before .before .before .pre in
+    let e3 = c .before .before .e3 in
+    (pre .0, subst Sound (e3 .given .1) (pre .1) .0)
 
 enum-known-e-4 : tie.Need-enum-known-e-4
 enum-known-e-4 c = search needs
 
 set-a-requires : tie.Need-set-a-requires
-set-a-requires c κs = (subst Sound (c .before .before .before .e4 .given .1) (c .before .before .before .before .before .before .pre .1) .0, c .before .before .before .before .before .before .pre .0)
+set-a-requires c κs =
+    let pre = c .before .before .before .before .before .before .pre in
+    let e4 = c .before .before .before .e4 in
+    (subst Sound (e4 .given .1) (pre .1) .0, pre .0)
 
 enum-known-e-5 : tie.Need-enum-known-e-5
 enum-known-e-5 c = search needs
@@ -46,7 +52,10 @@ set-x-requires-2 : tie.Need-set-x-requires-2
 set-x-requires-2 c κs = subst Sound (c .before .before .e7 .given .1) (c .before .before .before .before .before .pre .1) .0 .0
 
 set-b-requires-2 : tie.Need-set-b-requires-2
-set-b-requires-2 c κs = subst Sound (c .before .before .before .before .e7 .given .1) (c .before .before .before .before .before .before .before .pre .1) .1 .0
+set-b-requires-2 c κs =
+    let pre = c .before .before .before .before .before .before .before .pre in
+    let e7 = c .before .before .before .before .e7 in
+    subst Sound (e7 .given .1) (pre .1) .1 .0
 
 returns : tie.Need-returns
 unfolding applied

@@ -51,7 +51,11 @@ set-x-requires-2 c κs = search needs
 
 returns-2 : tie.Need-returns-2
 unfolding referred
-returns-2 c = rw (c .before .before .before .before .before .before .p .given .1, lt-ltb _ 6 (c .before .before .before .if1 .taken), c .set-x .ensures, c .before .before .before .before .index .ensures .is)
+returns-2 c =
+    let p = c .before .before .before .before .before .before .p in
+    let index = c .before .before .before .before .index in
+    let if1 = c .before .before .before .if1 in
+    rw (p .given .1, lt-ltb _ 6 (if1 .taken), c .set-x .ensures, index .ensures .is)
 
 same-length : tie.Need-same-length
 same-length c = search needs
@@ -62,7 +66,11 @@ returns-3 c = rw (c .before .before .before .before .p .given .1, le-ltb _ 6 (c 
 
 returns-4 : tie.Need-returns-4
 unfolding referred
-returns-4 c = rw (c .before .before .before .before .before .enum-told .given .1, ← and-mask _ 1, ne-eqb _ 1 (c .before .before .before .if2 .left), lt-ltb _ 6 (c .before .before .if3 .taken), c .set-x2 .ensures)
+returns-4 c =
+    let enum-told = c .before .before .before .before .before .enum-told in
+    let if2 = c .before .before .before .if2 in
+    let if3 = c .before .before .if3 in
+    rw (enum-told .given .1, ← and-mask _ 1, ne-eqb _ 1 (if2 .left), lt-ltb _ 6 (if3 .taken), c .set-x2 .ensures)
 
 returns-5 : tie.Need-returns-5
 unfolding referred

@@ -15,7 +15,11 @@ enum-known-a : tie.Need-enum-known-a
 enum-known-a c = search needs
 
 index-requires : tie.Need-index-requires
-index-requires c κs = subst (λ (p : Place). Within (c .before .before .before .before .before .args .b) p) (sym (c .before .before .before .convert .ensures) ∙ c .before .a .given .1) (place-within _ _)
+index-requires c κs =
+    let args = c .before .before .before .before .before .args in
+    let convert = c .before .before .before .convert in
+    let a = c .before .a in
+    subst (λ (p : Place). Within (args .b) p) (sym (convert .ensures) ∙ a .given .1) (place-within _ _)
 
 mul-f : tie.Need-mul-f
 mul-f c = search needs

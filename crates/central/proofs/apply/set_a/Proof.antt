@@ -21,14 +21,21 @@ convert-requires : tie.Need-convert-requires
 convert-requires c κs = search needs
 
 refer-requires : tie.Need-refer-requires
-refer-requires c κs = ((omega arith, c .before .before .before .before .before .pre .0), (c .before .before .before .before .before .pre .1, rw (c .before .before .convert .ensures) (place-within _ _)))
+refer-requires c κs =
+    let pre = c .before .before .before .before .before .pre in
+    let convert = c .before .before .convert in
+    ((omega arith, pre .0), (pre .1, rw (convert .ensures) (place-within _ _)))
 
 same-length : tie.Need-same-length
 same-length c = search needs
 
 returns-2 : tie.Need-returns-2
 unfolding aSet
-returns-2 c = rw (ne-eqb _ 0 (c .before .before .before .before .before .before .if1 .left), ← c .before .before .before .before .before .convert .ensures) (c .before .before .refer .ensures)
+returns-2 c =
+    let if1 = c .before .before .before .before .before .before .if1 in
+    let convert = c .before .before .before .before .before .convert in
+    let refer = c .before .before .refer in
+    rw (ne-eqb _ 0 (if1 .left), ← convert .ensures) (refer .ensures)
 
 pub set-a-spec : {M : Type 1} → statement M
 set-a-spec =

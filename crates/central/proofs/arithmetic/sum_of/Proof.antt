@@ -29,7 +29,11 @@ returns c = rw (c .before .before .before .match .keys1, c .sum60 .ensures, c .b
 
 returns-2 : tie.Need-returns-2
 unfolding sumOf
-returns-2 c = rw (c .before .before .before .match .keys2, c .difference60 .ensures, c .before .before .x-of3 .ensures .is, c .before .x-of4 .ensures .is)
+returns-2 c =
+    let match = c .before .before .before .match in
+    let x-of3 = c .before .before .x-of3 in
+    let x-of4 = c .before .x-of4 in
+    rw (match .keys2, c .difference60 .ensures, x-of3 .ensures .is, x-of4 .ensures .is)
 
 returns-3 : tie.Need-returns-3
 unfolding sumOf

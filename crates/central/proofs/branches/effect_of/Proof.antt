@@ -50,11 +50,20 @@ returns-3 c = rw (c .before .before .match .keys3, c .sum18 .ensures, c .before 
 
 returns-4 : tie.Need-returns-4
 unfolding branchOf
-returns-4 c = rw (c .before .before .before .match .keys4, c .jump-if .ensures, c .before .word-condition .ensures, c .before .before .x-of .ensures .is)
+returns-4 c =
+    let match = c .before .before .before .match in
+    let word-condition = c .before .word-condition in
+    let x-of = c .before .before .x-of in
+    rw (match .keys4, c .jump-if .ensures, word-condition .ensures, x-of .ensures .is)
 
 returns-5 : tie.Need-returns-5
 unfolding branchOf
-returns-5 c = rw (List·getD-eq-default (firstBranches _ _ _) _ (none-le 4 _ (c .before .before .before .before .match .rest)), c .jump-if2 .ensures, c .before .comparison .ensures, c .before .before .b-of3 .ensures .is, c .before .before .before .b-of2 .ensures .is)
+returns-5 c =
+    let match = c .before .before .before .before .match in
+    let b-of2 = c .before .before .before .b-of2 in
+    let b-of3 = c .before .before .b-of3 in
+    let comparison = c .before .comparison in
+    rw (List·getD-eq-default (firstBranches _ _ _) _ (none-le 4 _ (match .rest)), c .jump-if2 .ensures, comparison .ensures, b-of3 .ensures .is, b-of2 .ensures .is)
 
 pub effect-of-spec : {M : Type 1} → statement M
 effect-of-spec =

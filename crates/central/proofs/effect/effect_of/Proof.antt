@@ -38,7 +38,9 @@ operand-requires-3 : tie.Need-operand-requires-3
 operand-requires-3 c κs = search needs
 
 sign-extend18-requires : tie.Need-sign-extend18-requires
-sign-extend18-requires c κs = rw (c .operand3 .ensures) (operand-lt _ _ (c .before .before .before .before .pre .0) (c .before .before .before .before .pre .1 .0) _)
+sign-extend18-requires c κs =
+    let pre = c .before .before .before .before .pre in
+    rw (c .operand3 .ensures) (operand-lt _ _ (pre .0) (pre .1 .0) _)
 
 returns : tie.Need-returns
 unfolding effectOf
@@ -70,7 +72,11 @@ returns-7 c = rw (c .before .match .keys7, c .operand2 .ensures)
 
 returns-8 : tie.Need-returns-8
 unfolding effectOf
-returns-8 c = rw (last-arm 7 _ (omega (arith, c .before .before .before .before .before .pre .1 .0 .code)) (c .before .before .match .rest), c .sign-extend18 .ensures, c .before .operand3 .ensures)
+returns-8 c =
+    let pre = c .before .before .before .before .before .pre in
+    let match = c .before .before .match in
+    let operand3 = c .before .operand3 in
+    rw (last-arm 7 _ (omega (arith, pre .1 .0 .code)) (match .rest), c .sign-extend18 .ensures, operand3 .ensures)
 
 pub effect-of-spec : {M : Type 1} → statement M
 effect-of-spec =

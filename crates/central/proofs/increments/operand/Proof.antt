@@ -88,7 +88,12 @@ returns-3 c = rw (c .before .before .before .match .keys3, c .sum183 .ensures, c
 
 returns-4 : tie.Need-returns-4
 unfolding operandOf
-returns-4 c = rw (c .before .before .before .before .match .keys4, c .sum184 .ensures, c .before .before .low182 .ensures, c .before .b-of2 .ensures .is, c .before .before .before .x-of2 .ensures .is)
+returns-4 c =
+    let match = c .before .before .before .before .match in
+    let x-of2 = c .before .before .before .x-of2 in
+    let low182 = c .before .before .low182 in
+    let b-of2 = c .before .b-of2 in
+    rw (match .keys4, c .sum184 .ensures, low182 .ensures, b-of2 .ensures .is, x-of2 .ensures .is)
 
 returns-5 : tie.Need-returns-5
 unfolding operandOf
@@ -96,7 +101,11 @@ returns-5 c = rw (c .before .before .before .match .keys5, c .sum185 .ensures, c
 
 returns-6 : tie.Need-returns-6
 unfolding operandOf
-returns-6 c = rw (c .before .before .before .match .keys6, c .difference18 .ensures, c .before .b-of4 .ensures .is, c .before .before .a-of3 .ensures .is)
+returns-6 c =
+    let match = c .before .before .before .match in
+    let a-of3 = c .before .before .a-of3 in
+    let b-of4 = c .before .b-of4 in
+    rw (match .keys6, c .difference18 .ensures, b-of4 .ensures .is, a-of3 .ensures .is)
 
 returns-7 : tie.Need-returns-7
 unfolding operandOf
@@ -104,7 +113,11 @@ returns-7 c = rw (c .before .before .before .match .keys7, c .sum186 .ensures, c
 
 returns-8 : tie.Need-returns-8
 unfolding operandOf
-returns-8 c = rw (last-arm 7 _ (search needs) (c .before .before .before .match .rest), c .difference182 .ensures, c .before .b-of8 .ensures .is, c .before .before .b-of7 .ensures .is)
+returns-8 c =
+    let match = c .before .before .before .match in
+    let b-of7 = c .before .before .b-of7 in
+    let b-of8 = c .before .b-of8 in
+    rw (last-arm 7 _ (search needs) (match .rest), c .difference182 .ensures, b-of8 .ensures .is, b-of7 .ensures .is)
 
 pub operand-spec : {M : Type 1} → statement M
 operand-spec =

@@ -27,7 +27,14 @@ constant-at-requires c κs = search needs
 
 returns : tie.Need-returns
 unfolding decoded
-returns c = rw (c .constant-at .ensures, c .before .code .ensures, c .before .before .jk .ensures, c .before .before .before .digit3 .ensures, c .before .before .before .before .digit2 .ensures, c .before .before .before .before .before .digit .ensures, c .before .before .before .before .before .before .parcel .ensures)
+returns c =
+    let parcel = c .before .before .before .before .before .before .parcel in
+    let digit = c .before .before .before .before .before .digit in
+    let digit2 = c .before .before .before .before .digit2 in
+    let digit3 = c .before .before .before .digit3 in
+    let jk = c .before .before .jk in
+    let code = c .before .code in
+    rw (c .constant-at .ensures, code .ensures, jk .ensures, digit3 .ensures, digit2 .ensures, digit .ensures, parcel .ensures)
 
 pub decode-spec : {M : Type 1} → statement M
 decode-spec =

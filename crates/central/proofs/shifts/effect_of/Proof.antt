@@ -60,11 +60,19 @@ returns-2 c = rw (c .before .before .match .keys2, c .shift-right60 .ensures, c 
 
 returns-3 : tie.Need-returns-3
 unfolding shiftOf
-returns-3 c = rw (c .before .before .before .match .keys3, c .nominal-left .ensures, c .before .before .b-of .ensures .is, c .before .x-of3 .ensures .is)
+returns-3 c =
+    let match = c .before .before .before .match in
+    let b-of = c .before .before .b-of in
+    let x-of3 = c .before .x-of3 in
+    rw (match .keys3, c .nominal-left .ensures, b-of .ensures .is, x-of3 .ensures .is)
 
 returns-4 : tie.Need-returns-4
 unfolding shiftOf
-returns-4 c = rw (c .before .before .before .match .keys4, c .nominal-right .ensures, c .before .before .b-of2 .ensures .is, c .before .x-of4 .ensures .is)
+returns-4 c =
+    let match = c .before .before .before .match in
+    let b-of2 = c .before .before .b-of2 in
+    let x-of4 = c .before .x-of4 in
+    rw (match .keys4, c .nominal-right .ensures, b-of2 .ensures .is, x-of4 .ensures .is)
 
 returns-5 : tie.Need-returns-5
 unfolding shiftOf
@@ -80,7 +88,11 @@ returns-7 c = rw (c .before .before .match .keys7, c .unpack-to .ensures, c .bef
 
 returns-8 : tie.Need-returns-8
 unfolding shiftOf
-returns-8 c = rw (last-arm 7 _ (search needs) (c .before .before .before .match .rest), c .pack .ensures, c .before .before .b-of3 .ensures .is, c .before .x-of6 .ensures .is)
+returns-8 c =
+    let match = c .before .before .before .match in
+    let b-of3 = c .before .before .b-of3 in
+    let x-of6 = c .before .x-of6 in
+    rw (last-arm 7 _ (search needs) (match .rest), c .pack .ensures, b-of3 .ensures .is, x-of6 .ensures .is)
 
 pub effect-of-spec : {M : Type 1} → statement M
 effect-of-spec =

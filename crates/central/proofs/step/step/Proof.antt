@@ -24,19 +24,42 @@ returns : tie.Need-returns
 returns c = rw (← c .before .before .before .decode .ensures) (ran-unfit _ _ _ _ _ _ (c .before .before .is-fit .ensures) (c .if1 .taken))
 
 returns-2 : tie.Need-returns-2
-returns-2 c = rw (← c .before .before .before .before .decode .ensures) (ran-cut _ _ _ _ _ _ (c .before .before .before .is-fit .ensures) (c .before .if1 .left) _ (ap (λ (n : ℕ). c .before .before .before .before .before .before .args .place + n) (c .before .before .parcels .ensures)) (c .if2 .taken))
+returns-2 c =
+    let args = c .before .before .before .before .before .before .args in
+    let decode = c .before .before .before .before .decode in
+    let is-fit = c .before .before .before .is-fit in
+    let parcels = c .before .before .parcels in
+    let if1 = c .before .if1 in
+    rw (← decode .ensures) (ran-cut _ _ _ _ _ _ (is-fit .ensures) (if1 .left) _ (ap (λ (n : ℕ). args .place + n) (parcels .ensures)) (c .if2 .taken))
 
 effect-of-requires : tie.Need-effect-of-requires
-effect-of-requires c κs = (c .before .before .before .before .before .before .before .pre .0, (rw (c .before .before .before .before .before .decode .ensures) (decoded-fits _ _), c .before .before .before .before .before .before .before .pre .1 .1 .0))
+effect-of-requires c κs =
+    let pre = c .before .before .before .before .before .before .before .pre in
+    let decode = c .before .before .before .before .before .decode in
+    (pre .0, (rw (decode .ensures) (decoded-fits _ _), pre .1 .1 .0))
 
 apply-requires : tie.Need-apply-requires
-apply-requires c κs = (c .before .before .before .before .before .before .before .before .before .before .pre .1 .0, rw (c .before .before .effect-of .ensures) (effect-sound _ _ (c .before .before .before .before .before .before .before .before .before .before .pre .0) (rw (c .before .before .before .before .before .before .before .before .decode .ensures) (decoded-fits _ _)) _ (c .before .before .before .before .before .before .before .before .before .before .pre .1 .1 .0)))
+apply-requires c κs =
+    let pre = c .before .before .before .before .before .before .before .before .before .before .pre in
+    let decode = c .before .before .before .before .before .before .before .before .decode in
+    let effect-of = c .before .before .effect-of in
+    (pre .1 .0, rw (effect-of .ensures) (effect-sound _ _ (pre .0) (rw (decode .ensures) (decoded-fits _ _)) _ (pre .1 .1 .0)))
 
 same-length : tie.Need-same-length
 same-length c = search needs
 
 returns-3 : tie.Need-returns-3
-returns-3 c = rw (← c .before .before .before .before .before .before .before .before .before .before .before .decode .ensures) (ran-whole _ _ _ _ _ _ (c .before .before .before .before .before .before .before .before .before .before .is-fit .ensures) (c .before .before .before .before .before .before .before .before .if1 .left) _ (ap (λ (n : ℕ). c .before .before .before .before .before .before .before .before .before .before .before .before .before .args .place + n) (c .before .before .before .before .before .before .before .before .before .parcels .ensures)) _ _ (c .before .before .before .before .before .before .before .if2 .left) (c .before .before .before .before .before .effect-of .ensures) (c .before .before .apply .ensures))
+returns-3 c =
+    let args = c .before .before .before .before .before .before .before .before .before .before .before .before .before .args in
+    let decode = c .before .before .before .before .before .before .before .before .before .before .before .decode in
+    let is-fit = c .before .before .before .before .before .before .before .before .before .before .is-fit in
+    let parcels = c .before .before .before .before .before .before .before .before .before .parcels in
+    let if1 = c .before .before .before .before .before .before .before .before .if1 in
+    let if2 = c .before .before .before .before .before .before .before .if2 in
+    let effect-of = c .before .before .before .before .before .effect-of in
+    let apply = c .before .before .apply in
+    rw (← decode .ensures)
+    (ran-whole _ _ _ _ _ _ (is-fit .ensures) (if1 .left) _ (ap (λ (n : ℕ). args .place + n) (parcels .ensures)) _ _ (if2 .left) (effect-of .ensures) (apply .ensures))
 
 pub step-spec : {M : Type 1} → statement M
 step-spec =

@@ -15,7 +15,11 @@ enum-known-a : tie.Need-enum-known-a
 enum-known-a c = search needs
 
 index-requires : tie.Need-index-requires
-index-requires c κs = subst (λ (p : Place). Within (c .before .before .before .before .before .args .b) p) (sym (c .before .before .before .convert .ensures) ∙ c .before .a .given .1) (place-within _ _)
+index-requires c κs =
+    let args = c .before .before .before .before .before .args in
+    let convert = c .before .before .before .convert in
+    let a = c .before .a in
+    subst (λ (p : Place). Within (args .b) p) (sym (convert .ensures) ∙ a .given .1) (place-within _ _)
 
 mul-w : tie.Need-mul-w
 mul-w c = search needs
@@ -24,7 +28,11 @@ slice-read-w : tie.Need-slice-read-w
 slice-read-w c = search needs
 
 run-word-requires : tie.Need-run-word-requires
-run-word-requires c κs = (c .before .before .before .before .before .before .before .before .before .pre .0, (c .before .before .before .before .before .before .before .before .before .pre .1, inside-below _ _ _ (sym (c .before .before .before .before .before .before .before .convert .ensures) ∙ c .before .before .before .before .before .a .given .1)))
+run-word-requires c κs =
+    let pre = c .before .before .before .before .before .before .before .before .before .pre in
+    let convert = c .before .before .before .before .before .before .before .convert in
+    let a = c .before .before .before .before .before .a in
+    (pre .0, (pre .1, inside-below _ _ _ (sym (convert .ensures) ∙ a .given .1)))
 
 enum-told : tie.Need-enum-told
 enum-told c = search needs
@@ -37,7 +45,12 @@ same-length c = search needs
 
 returns : tie.Need-returns
 unfolding turnOf
-returns c = rw (← c .before .before .before .before .before .before .before .before .before .before .convert .ensures, c .before .before .before .before .before .before .before .before .a .given .1, ← c .before .before .before .before .before .before .index .ensures .is) (c .before .before .run-word .ensures)
+returns c =
+    let convert = c .before .before .before .before .before .before .before .before .before .before .convert in
+    let a = c .before .before .before .before .before .before .before .before .a in
+    let index = c .before .before .before .before .before .before .index in
+    let run-word = c .before .before .run-word in
+    rw (← convert .ensures, a .given .1, ← index .ensures .is) (run-word .ensures)
 
 returns-2 : tie.Need-returns-2
 unfolding turnOf

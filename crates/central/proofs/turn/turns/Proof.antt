@@ -23,16 +23,30 @@ add-made : tie.Need-add-made Inv-loop μ-loop
 add-made c = omega (arith, c .before .before .before .before .before .loop-test .taken)
 
 same-length : tie.Need-same-length Inv-loop μ-loop
-same-length c = c .before .before .before .before .turn .kept .1 .0 ∙ c .before .before .before .before .before .before .before .before .loop .inv .kept .size ∙ sym (c .before .before .before .before .before .before .before .before .before .before .pre .0 .size)
+same-length c =
+    let pre = c .before .before .before .before .before .before .before .before .before .before .pre in
+    let loop = c .before .before .before .before .before .before .before .before .loop in
+    let turn = c .before .before .before .before .turn in
+    turn .kept .1 .0 ∙ loop .inv .kept .size ∙ sym (pre .0 .size)
 
 returns : tie.Need-returns Inv-loop μ-loop
-returns c = going-stop _ (omega (arith, c .before .before .before .before .before .before .before .before .before .before .pre .1 .0)) _ _ _ _ _ _ (c .before .before .before .before .before .before .before .before .loop .inv) (c .before .before .before .before .before .before .before .loop-test .taken) _ (c .before .before .before .before .turn .ensures) (c .if1 .taken)
+returns c =
+    let pre = c .before .before .before .before .before .before .before .before .before .before .pre in
+    let loop = c .before .before .before .before .before .before .before .before .loop in
+    let loop-test = c .before .before .before .before .before .before .before .loop-test in
+    let turn = c .before .before .before .before .turn in
+    going-stop _ (omega (arith, pre .1 .0)) _ _ _ _ _ _ (loop .inv) (loop-test .taken) _ (turn .ensures) (c .if1 .taken)
 
 loop-less : tie.Need-loop-less Inv-loop μ-loop
 loop-less c = omega arith
 
 loop-again : tie.Need-loop-again Inv-loop μ-loop
-loop-again c = going-on _ (omega (arith, c .before .before .before .before .before .before .before .before .before .before .pre .1 .0)) _ _ _ _ _ _ (c .before .before .before .before .before .before .before .before .loop .inv) (c .before .before .before .before .before .before .before .loop-test .taken) _ (c .before .before .before .before .turn .ensures) (c .if1 .left)
+loop-again c =
+    let pre = c .before .before .before .before .before .before .before .before .before .before .pre in
+    let loop = c .before .before .before .before .before .before .before .before .loop in
+    let loop-test = c .before .before .before .before .before .before .before .loop-test in
+    let turn = c .before .before .before .before .turn in
+    going-on _ (omega (arith, pre .1 .0)) _ _ _ _ _ _ (loop .inv) (loop-test .taken) _ (turn .ensures) (c .if1 .left)
 
 same-length-2 : tie.Need-same-length-2 Inv-loop μ-loop
 same-length-2 c = c .before .loop .inv .kept .size ∙ sym (c .before .before .before .pre .0 .size)

@@ -22,14 +22,20 @@ part-turns-end : tie.Need-part-turns-end
 part-turns-end c = omega (arith, field-inside _ _ (c .before .before .before .pre))
 
 turns-requires : tie.Need-turns-requires
-turns-requires c κs = rw (lent-part (c .before .before .before .before .args .c)) (field-kept _ _ (c .before .before .before .before .pre) (search needs), (field-room _ _ (c .before .before .before .before .pre), p-short _ _ (c .before .before .before .before .pre)))
+turns-requires c κs =
+    let args = c .before .before .before .before .args in
+    let pre = c .before .before .before .before .pre in
+    rw (lent-part (args .c)) (field-kept _ _ (pre) (search needs), (field-room _ _ (pre), p-short _ _ (pre)))
 
 same-length : tie.Need-same-length
 same-length c = search needs
 
 returns : tie.Need-returns
 unfolding ranOn
-returns c = rw (lent-part (c .before .before .before .before .before .before .before .args .c), ← rw (lent-part (c .before .before .before .before .before .before .before .args .c)) at (c .before .before .turns .ensures))
+returns c =
+    let args = c .before .before .before .before .before .before .before .args in
+    let turns = c .before .before .turns in
+    rw (lent-part (args .c), ← rw (lent-part (args .c)) at (turns .ensures))
 
 pub run-spec : {M : Type 1} → statement M
 run-spec =

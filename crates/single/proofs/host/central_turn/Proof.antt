@@ -23,7 +23,11 @@ same-length c = search needs
 
 returns : tie.Need-returns
 unfolding turnAnswer
-returns c = rw (← c .before .before .before .before .before .before .host-verdict .ensures, c .before .before .before .before .enum-told .given .1, ← c .before .before .turn-if-running .ensures)
+returns c =
+    let host-verdict = c .before .before .before .before .before .before .host-verdict in
+    let enum-told = c .before .before .before .before .enum-told in
+    let turn-if-running = c .before .before .turn-if-running in
+    rw (← host-verdict .ensures, enum-told .given .1, ← turn-if-running .ensures)
 
 same-length-2 : tie.Need-same-length-2
 same-length-2 c = search needs

@@ -14,7 +14,10 @@ enum-told : tie.Need-enum-told
 enum-told c = search needs
 
 exchange-jump-requires : tie.Need-exchange-jump-requires
-exchange-jump-requires c κs = let e = sym (c .before .before .before .exchange-verdict .ensures) ∙ c .before .enum-told .given .1 in (exchange-owner _ _ _ e .inside, fits _ _ (exchange-host _ _ _ e .fits) .fits-package)
+exchange-jump-requires c κs =
+    let exchange-verdict = c .before .before .before .exchange-verdict in
+    let enum-told = c .before .enum-told in
+    let e = sym (exchange-verdict .ensures) ∙ enum-told .given .1 in (exchange-owner _ _ _ e .inside, fits _ _ (exchange-host _ _ _ e .fits) .fits-package)
 
 enum-known-r : tie.Need-enum-known-r
 enum-known-r c = search needs
@@ -24,7 +27,11 @@ same-length c = search needs
 
 returns : tie.Need-returns
 unfolding exchangeAnswer
-returns c = rw (← c .before .before .before .before .before .before .exchange-verdict .ensures, c .before .before .before .before .enum-told .given .1, ← c .before .before .exchange-jump .ensures)
+returns c =
+    let exchange-verdict = c .before .before .before .before .before .before .exchange-verdict in
+    let enum-told = c .before .before .before .before .enum-told in
+    let exchange-jump = c .before .before .exchange-jump in
+    rw (← exchange-verdict .ensures, enum-told .given .1, ← exchange-jump .ensures)
 
 same-length-2 : tie.Need-same-length-2
 same-length-2 c = search needs

@@ -9,7 +9,9 @@ load-requires : tie.Need-load-requires
 load-requires c κs = search needs
 
 shares-word-requires : tie.Need-shares-word-requires
-shares-word-requires c κs = rw (c .load .ensures) (omega (arith, c .before .before .pre .0 .inside, c .before .before .pre .1), omega (arith, c .before .before .pre .0 .field, c .before .before .pre .1))
+shares-word-requires c κs =
+    let pre = c .before .before .pre in
+    rw (c .load .ensures) (omega (arith, pre .0 .inside, pre .1), omega (arith, pre .0 .field, pre .1))
 
 returns : tie.Need-returns
 unfolding overlapVerdict

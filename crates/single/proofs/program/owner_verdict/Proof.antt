@@ -18,18 +18,29 @@ enum-told : tie.Need-enum-told
 enum-told c = search needs
 
 overlap-verdict-requires : tie.Need-overlap-verdict-requires
-overlap-verdict-requires c κs = (package-accepted _ _ (sym (c .before .before .package-verdict .ensures) ∙ c .enum-told .given .1), c .before .before .before .before .before .pre)
+overlap-verdict-requires c κs =
+    let pre = c .before .before .before .before .before .pre in
+    let package-verdict = c .before .before .package-verdict in
+    (package-accepted _ _ (sym (package-verdict .ensures) ∙ c .enum-told .given .1), pre)
 
 enum-known-r : tie.Need-enum-known-r
 enum-known-r c = search needs
 
 returns-2 : tie.Need-returns-2
 unfolding ownerVerdict
-returns-2 c = rw (le-ltb 65535 _ (c .before .before .before .before .if1 .left), ← c .before .before .before .package-verdict .ensures, c .before .enum-told .given .1) (c .overlap-verdict .ensures)
+returns-2 c =
+    let package-verdict = c .before .before .before .package-verdict in
+    let if1 = c .before .before .before .before .if1 in
+    let enum-told = c .before .enum-told in
+    rw (le-ltb 65535 _ (if1 .left), ← package-verdict .ensures, enum-told .given .1) (c .overlap-verdict .ensures)
 
 returns-3 : tie.Need-returns-3
 unfolding ownerVerdict
-returns-3 c = rw (le-ltb 65535 _ (c .before .before .before .before .if1 .left), ← c .before .before .before .package-verdict .ensures, c .before .r .given .1)
+returns-3 c =
+    let package-verdict = c .before .before .before .package-verdict in
+    let if1 = c .before .before .before .before .if1 in
+    let r = c .before .r in
+    rw (le-ltb 65535 _ (if1 .left), ← package-verdict .ensures, r .given .1)
 
 pub owner-verdict-spec : {M : Type 1} → statement M
 owner-verdict-spec =

@@ -23,7 +23,11 @@ same-length c = search needs
 
 returns : tie.Need-returns
 unfolding runAnswer
-returns c = rw (← c .before .before .before .before .before .before .before .run-verdict .ensures, c .before .before .before .before .before .enum-told .given .1, ← c .before .before .before .stint .ensures)
+returns c =
+    let run-verdict = c .before .before .before .before .before .before .before .run-verdict in
+    let enum-told = c .before .before .before .before .before .enum-told in
+    let stint = c .before .before .before .stint in
+    rw (← run-verdict .ensures, enum-told .given .1, ← stint .ensures)
 
 same-length-2 : tie.Need-same-length-2
 same-length-2 c = search needs

@@ -19,14 +19,22 @@ add-if3 c = search needs
 
 returns-3 : tie.Need-returns-3
 unfolding sharesWord
-returns-3 c = rw (lt-ltb 0 (c .before .before .before .args .n) (omega (arith, c .before .before .if1 .left)), lt-ltb 0 (c .before .before .before .args .k) (omega (arith, c .before .if2 .left)), le-ltb _ _ (c .if3 .taken))
+returns-3 c =
+    let args = c .before .before .before .args in
+    let if1 = c .before .before .if1 in
+    let if2 = c .before .if2 in
+    rw (lt-ltb 0 (args .n) (omega (arith, if1 .left)), lt-ltb 0 (args .k) (omega (arith, if2 .left)), le-ltb _ _ (c .if3 .taken))
 
 add-result : tie.Need-add-result
 add-result c = search needs
 
 returns-4 : tie.Need-returns-4
 unfolding sharesWord
-returns-4 c = rw (lt-ltb 0 (c .before .before .before .args .n) (omega (arith, c .before .before .if1 .left)), lt-ltb 0 (c .before .before .before .args .k) (omega (arith, c .before .if2 .left)), lt-ltb _ _ (c .if3 .left))
+returns-4 c =
+    let args = c .before .before .before .args in
+    let if1 = c .before .before .if1 in
+    let if2 = c .before .if2 in
+    rw (lt-ltb 0 (args .n) (omega (arith, if1 .left)), lt-ltb 0 (args .k) (omega (arith, if2 .left)), lt-ltb _ _ (c .if3 .left))
 
 pub shares-word-spec : {M : Type 1} → statement M
 shares-word-spec = tie.close (tie.spec returns returns-2 add-if3 returns-3 add-result returns-4)

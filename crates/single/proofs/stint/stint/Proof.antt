@@ -11,13 +11,21 @@ run-requires : tie.Need-run-requires
 run-requires c κs = may-run _ _ _ (c .before .before .before .before .before .before .pre) _ (c .before .before .before .exchange-jump .ensures)
 
 exchange-jump-requires-2 : tie.Need-exchange-jump-requires-2
-exchange-jump-requires-2 c κs = may-exchange-out _ _ _ (c .before .before .before .before .before .before .before .before .before .before .before .pre) _ _ _ (c .before .before .before .before .before .before .before .before .exchange-jump .ensures) (c .before .before .before .before .run .ensures)
+exchange-jump-requires-2 c κs =
+    let pre = c .before .before .before .before .before .before .before .before .before .before .before .pre in
+    let exchange-jump = c .before .before .before .before .before .before .before .before .exchange-jump in
+    let run = c .before .before .before .before .run in
+    may-exchange-out _ _ _ (pre) _ _ _ (exchange-jump .ensures) (run .ensures)
 
 same-length : tie.Need-same-length
 same-length c = search needs
 
 returns : tie.Need-returns
-returns c = stint-is _ _ _ _ _ _ _ (c .before .before .before .before .before .before .before .before .before .before .before .exchange-jump .ensures) (c .before .before .before .before .before .before .before .run .ensures) (c .before .before .exchange-jump2 .ensures)
+returns c =
+    let exchange-jump = c .before .before .before .before .before .before .before .before .before .before .before .exchange-jump in
+    let run = c .before .before .before .before .before .before .before .run in
+    let exchange-jump2 = c .before .before .exchange-jump2 in
+    stint-is _ _ _ _ _ _ _ (exchange-jump .ensures) (run .ensures) (exchange-jump2 .ensures)
 
 pub stint-spec : {M : Type 1} → statement M
 stint-spec =
