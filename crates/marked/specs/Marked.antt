@@ -3,7 +3,7 @@
 -- Assumes nothing.
 use mathlib.Core.Path.{_≡_, refl}
 use mathlib.Core.List.{List, _∷_}
-use Prim.Native.Nat.{ℕ, _+_, _-_, _^_, _≤_, _<_}
+use Prim.Native.Nat.{ℕ, _-_, _^_, _≤_, _<_}
 use native.Mathlib.Omega.{arith}
 use borrow.Author.Tests.{le-leb, lt-ltb, le-ltb}
 use lib.Count.{onesIn}
@@ -18,7 +18,7 @@ use Rattle.central.specs.Effects.{branchOf, effectOf}
 use Rattle.central.specs.Address.{placeOf}
 use Rattle.central.specs.Apply.{returnJumped, applied}
 use Rattle.central.specs.Turn.{ranAt, turned, turnEnd, parcelsRun, wordRun, turnOf}
-use Rattle.central.specs.Laws.Place.{bounds}
+use Rattle.central.specs.Laws.Place.{bounds, place-back}
 use Rattle.central.specs.declared.address.Bounds.{Bounds}
 
 pub record Marked : Type 0 where
@@ -52,9 +52,6 @@ pub record Marked : Type 0 where
   unpacked-coefficient : coefficientOf 0o17760000000000000005 ≡ 5
   unpacked-exponent : exponentOf 0o17760000000000000005 ≡ 0o777776
 
-back : (ra n : ℕ) → ra + n - ra ≡ n
-back ra n = omega arith
-
 pub marked : Marked
 unfolding sum rotateLeft mask shiftRightSigned shiftA onesIn magnitude coefficientOf exponentFrom exponentOf turnOf placeOf parcelsRun ranAt decoded constantAt isFit isLeftOut isLong parcelsOf effectOf branchOf applied returnJumped
 marked =
@@ -70,8 +67,8 @@ marked =
       shn-71 = refl;
       sod-a = refl;
       sod-memory = refl;
-      return-jump = λ r f ra em. rw (back ra 0, back ra 2);
-      last-word = λ b s h. rw (lt-ltb (b .fl - 1) (b .fl) (omega arith), back (b .ra) (b .fl - 1));
+      return-jump = λ r f ra em. rw (place-back ra 0, place-back ra 2);
+      last-word = λ b s h. rw (lt-ltb (b .fl - 1) (b .fl) (omega arith), place-back (b .ra) (b .fl - 1));
       past-last-word = λ b s. rw (le-ltb (b .fl) (b .fl) (omega arith));
       unpacked-coefficient = refl;
       unpacked-exponent = refl;

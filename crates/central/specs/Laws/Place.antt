@@ -22,15 +22,16 @@ use Rattle.central.specs.declared.effect.Effect.the-variants.{Pass, Stop
 abbrev pub bounds : ℕ → ℕ → ℕ → Bounds
 bounds ra fl em = record { ra = ra; fl = fl; em = em }
 
-back : (ra n : ℕ) → ra + n - ra ≡ n
-back ra n = omega arith
+-- where the word at RA + n stands in the field
+pub place-back : (ra n : ℕ) → ra + n - ra ≡ n
+place-back ra n = omega arith
 
 module _ (ra ra′ fl em : ℕ) where
   refer-anywhere : (s : State) (i v n : ℕ) (t : Bool)
       → referred s (bounds ra fl em) i (cond t (Inside (record { 0 = ra + v })) Outside) n
       ≡ referred s (bounds ra′ fl em) i (cond t (Inside (record { 0 = ra′ + v })) Outside) n
   unfolding referred
-  refer-anywhere s i v n true = rw (back ra v, back ra′ v)
+  refer-anywhere s i v n true = rw (place-back ra v, place-back ra′ v)
   refer-anywhere s i v n false = refl
 
   set-a-anywhere : (s : State) (i v n : ℕ) → aSet s (bounds ra fl em) i v n ≡ aSet s (bounds ra′ fl em) i v n
@@ -40,7 +41,7 @@ module _ (ra ra′ fl em : ℕ) where
   store-anywhere : (f : List ℕ) (k w : ℕ) (t : Bool)
       → storedAt f (bounds ra fl em) k w (cond t (Inside (record { 0 = ra + k })) Outside)
       ≡ storedAt f (bounds ra′ fl em) k w (cond t (Inside (record { 0 = ra′ + k })) Outside)
-  store-anywhere f k w true = rw (back ra k, back ra′ k)
+  store-anywhere f k w true = rw (place-back ra k, place-back ra′ k)
   store-anywhere f k w false = refl
 
   return-anywhere : (f : List ℕ) (k w : ℕ) → returnJumped f (bounds ra fl em) k w ≡ returnJumped f (bounds ra′ fl em) k w
@@ -83,7 +84,7 @@ module _ (ra ra′ fl em : ℕ) where
   fetch-anywhere : (p : ℕ) (s : State) (t : Bool)
       → fetched (bounds ra fl em) p s (cond t (Inside (record { 0 = ra + p })) Outside)
       ≡ fetched (bounds ra′ fl em) p s (cond t (Inside (record { 0 = ra′ + p })) Outside)
-  fetch-anywhere p s true = rw (back ra p, back ra′ p) (parcels-anywhere p _ 4 s 0)
+  fetch-anywhere p s true = rw (place-back ra p, place-back ra′ p) (parcels-anywhere p _ 4 s 0)
   fetch-anywhere p s false = refl
 
   pub turn-anywhere : (p : ℕ) (s : State) → turnOf (bounds ra fl em) p s ≡ turnOf (bounds ra′ fl em) p s

@@ -23,7 +23,7 @@ by-test true v r e = (refl, e)
 by-test false v r e = let z : _≡_ {A = ℕ} 0 1 = cc in absurd (omega arith)
 
 -- accepted where a fault is not found
-by-fault : (t : Bool) (r : Refusal) (v : Verdict) → cond t (Call.Refused r) v ≡ Call.Accepted → (t ≡ false) × (v ≡ Call.Accepted)
+pub by-fault : (t : Bool) (r : Refusal) (v : Verdict) → cond t (Call.Refused r) v ≡ Call.Accepted → (t ≡ false) × (v ≡ Call.Accepted)
 by-fault true r v e = let z : _≡_ {A = ℕ} 0 1 = cc in absurd (omega arith)
 by-fault false r v e = (refl, e)
 

@@ -109,10 +109,6 @@ module _ (m : List ℕ) (c : Central) (l : HostAccepted m c) (count : length (c 
   unfolding ranOn
   ran-above n = word-above m (c .ra) (c .fl) (fieldRun m c n .state .field) room (ran-left n .kept .size)
 
--- the part lent as `&mut m[ra..ra + fl]`
-pub lent-part : (c : Central) → c .ra + c .fl - c .ra ≡ c .fl
-lent-part c = omega arith
-
 -- turns depend on the record and its field alone: in another memory with the same field they end alike
 module _ (m m′ : List ℕ) (c : Central) (alike : part m (c .ra) (c .fl) ≡ part m′ (c .ra) (c .fl)) where
   same-run : (n : ℕ) → fieldRun m c n ≡ fieldRun m′ c n

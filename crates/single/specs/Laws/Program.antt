@@ -1,30 +1,22 @@
 -- The call that runs one program: what an accepted call is, and its promises in a reader's words. Assumes nothing.
-use mathlib.Core.Bool.{Bool, true, false, cond}
 use mathlib.Core.List.{List}
 use mathlib.Core.Logic.{_⊎_}
 use mathlib.Core.Path.{_≡_, refl}
 use Prim.Native.Nat.{ℕ, _+_, _≤_, _<_}
-use native.Mathlib.Omega.{arith}
 use lib.Dec.{ltb}
 use lib.ListN.{length, getD}
 use Rattle.outcome.specs.declared.refusal.Refusal.the-variants as Because
 use Rattle.outcome.specs.declared.refusal.Verdict.the-variants as Call
-use Rattle.outcome.specs.declared.refusal.Refusal.{Refusal}
 use Rattle.outcome.specs.declared.refusal.Verdict.{Verdict}
 use Rattle.exchange.specs.Record.{hostVerdict}
 use Rattle.exchange.specs.Jump.{recordAt, packageVerdict}
-use Rattle.exchange.specs.Laws.Verdicts.{host-accepted, package-accepted}
+use Rattle.exchange.specs.Laws.Verdicts.{by-fault, host-accepted, package-accepted}
 use Rattle.exchange.specs.declared.record.Central.{Central}
 use Rattle.single.specs.Overlap.{sharesWord}
 use Rattle.single.specs.Stint.{stintOf, Accepted}
 use Rattle.single.specs.Program.{overlapVerdict, ownerVerdict, runVerdict, runAnswerBy, runAnswer}
 use Rattle.single.specs.Laws.Stint.{stint-record, stint-outside}
 use Rattle.single.specs.Laws.Host.{both-accept}
-
--- accepted where a fault is not found
-by-fault : (t : Bool) (r : Refusal) (v : Verdict) → cond t (Call.Refused r) v ≡ Call.Accepted → (t ≡ false) × (v ≡ Call.Accepted)
-by-fault true r v e = let z : _≡_ {A = ℕ} 0 1 = cc in absurd (omega arith)
-by-fault false r v e = (refl, e)
 
 pub accepted : (m : List ℕ) (c : Central) (at n : ℕ) → runVerdict m c at n ≡ Call.Accepted → Accepted m c at
 unfolding runVerdict ownerVerdict overlapVerdict

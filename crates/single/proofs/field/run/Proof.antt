@@ -2,7 +2,8 @@
 use native.Mathlib.Omega.{arith}
 use borrow.Author.Needs.{needs}
 use Rattle.single.proofs.field.run.Tie as tie
-use Rattle.single.specs.Laws.Field.{field-inside, p-short, lent-part, field-room, field-kept}
+use Rattle.single.specs.Laws.Field.{field-inside, p-short, field-room, field-kept}
+use Rattle.central.specs.Laws.Place.{place-back}
 use Rattle.single.specs.Field.{ranOn}
 use Rattle.single.proofs.field.run.Statement.{statement}
 
@@ -25,7 +26,7 @@ turns-requires : tie.Need-turns-requires
 turns-requires c κs =
     let args = c .before .before .before .before .args in
     let pre = c .before .before .before .before .pre in
-    rw (lent-part (args .c)) (field-kept _ _ (pre) (search needs), (field-room _ _ (pre), p-short _ _ (pre)))
+    rw (place-back (args .c .ra) (args .c .fl)) (field-kept _ _ pre (search needs), (field-room _ _ pre, p-short _ _ pre))
 
 same-length : tie.Need-same-length
 same-length c = search needs
@@ -35,7 +36,7 @@ unfolding ranOn
 returns c =
     let args = c .before .before .before .before .before .before .before .args in
     let turns = c .before .before .turns in
-    rw (lent-part (args .c), ← rw (lent-part (args .c)) at (turns .ensures))
+    rw (place-back (args .c .ra) (args .c .fl), ← rw (place-back (args .c .ra) (args .c .fl)) at (turns .ensures))
 
 pub run-spec : {M : Type 1} → statement M
 run-spec =

@@ -15,7 +15,7 @@ exchange-jump-requires-2 c κs =
     let pre = c .before .before .before .before .before .before .before .before .before .before .before .pre in
     let exchange-jump = c .before .before .before .before .before .before .before .before .exchange-jump in
     let run = c .before .before .before .before .run in
-    may-exchange-out _ _ _ (pre) _ _ _ (exchange-jump .ensures) (run .ensures)
+    may-exchange-out _ _ _ pre _ _ _ (exchange-jump .ensures) (run .ensures)
 
 same-length : tie.Need-same-length
 same-length c = search needs
