@@ -1,0 +1,3 @@
+// OCTAL: numbers as text in octal digits.
+pub mod read;
+pub mod write;
