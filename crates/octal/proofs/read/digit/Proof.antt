@@ -14,10 +14,10 @@ add-t5 : tie.Need-add-t5
 add-t5 c = search needs
 
 returns : tie.Need-returns
-returns c = sym (room _ _ (c .before .before .before .pre) (c .before .if1 .taken))
+returns c = sym (room _ _ (c .before .before .before .pre) (omega (arith, c .before .if1 .taken)))
 
 returns-2 : tie.Need-returns-2
-returns-2 c = sym (no-room _ _ (c .if1 .left))
+returns-2 c = sym (no-room _ _ (omega (arith, c .if1 .left)))
 
 pub digit-spec : {M : Type 1} → statement M
 digit-spec = tie.close (tie.spec mul-t4 add-t5 returns returns-2)

@@ -1,0 +1,130 @@
+// The bytes of the input: numbers for the line, and an answer where a line ends.
+use super::answer;
+use super::call;
+use super::call::Outcome;
+use super::line;
+use super::line::CENTRAL_LENGTH;
+use super::line::Next;
+use super::line::PERIPHERAL_LENGTH;
+use super::line::Position;
+use octal::read::Digits;
+use octal::read::Fed;
+use octal::read::feed;
+
+pub(crate) struct Reader {
+    pub digits: Digits,
+    pub position: Position,
+}
+
+fn at(position: Position) -> Reader {
+    Reader {
+        digits: octal::read::start(),
+        position,
+    }
+}
+
+// At the start of a line.
+pub(crate) fn start() -> Reader {
+    at(line::start())
+}
+
+// No line can come.
+pub(crate) fn ended() -> Reader {
+    at(line::unreadable())
+}
+
+pub(crate) fn is_over(r: Reader) -> bool {
+    let next = r.position.next;
+    match next {
+        Next::Unreadable => true,
+        _ => false,
+    }
+}
+
+fn unreadable() -> Reader {
+    io::write_all(1, b"unreadable\n");
+    ended()
+}
+
+// Both memories to zero.
+fn clear(central: &mut [u64], peripheral: &mut [u16]) {
+    let mut i: usize = 0;
+    while i < central.len() {
+        central[i] = 0;
+        i = i + 1;
+    }
+    let mut k: usize = 0;
+    while k < peripheral.len() {
+        peripheral[k] = 0;
+        k = k + 1;
+    }
+}
+
+// Makes the call, writes its answer, and leaves the memories zero for the next line.
+fn answer_call(central: &mut [u64], peripheral: &mut [u16], numbers: &mut [u64; 648]) -> Reader {
+    let outcome = call::make(&mut *central, &mut *numbers);
+    match outcome {
+        Outcome::Answer(refusal) => {
+            answer::write(refusal, &*central, &*peripheral, &*numbers);
+            clear(&mut *central, &mut *peripheral);
+            start()
+        }
+        Outcome::Unreadable => unreadable(),
+    }
+}
+
+// At the end of a line, the call is made on memories of the lengths that the line gives.
+fn end_line(p: Position, central: &mut [u64], peripheral: &mut [u16], numbers: &mut [u64; 648]) -> Reader {
+    if !line::is_complete(p) {
+        return unreadable();
+    }
+    let c = numbers[CENTRAL_LENGTH] as usize;
+    let k = numbers[PERIPHERAL_LENGTH] as usize;
+    if central.len() < c {
+        return unreadable();
+    }
+    if peripheral.len() < k {
+        return unreadable();
+    }
+    answer_call(&mut central[..c], &mut peripheral[..k], &mut *numbers)
+}
+
+// One number of the line, and the byte after it.
+fn take_number(p: Position, n: u64, byte: u8, central: &mut [u64], peripheral: &mut [u16], numbers: &mut [u64; 648]) -> Reader {
+    let next = line::take(p, n, &mut *central, &mut *peripheral, &mut *numbers);
+    if byte == b'\n' {
+        return end_line(next, &mut *central, &mut *peripheral, &mut *numbers);
+    }
+    at(next)
+}
+
+fn take_byte(r: Reader, byte: u8, central: &mut [u64], peripheral: &mut [u16], numbers: &mut [u64; 648]) -> Reader {
+    let position = r.position;
+    let fed = feed(r.digits, byte);
+    match fed {
+        Fed::More(digits) => Reader { digits, position },
+        Fed::Number(n) => take_number(position, n, byte, &mut *central, &mut *peripheral, &mut *numbers),
+        Fed::Nothing => unreadable(),
+        Fed::Unreadable => unreadable(),
+    }
+}
+
+pub(crate) fn take_bytes(
+    r: Reader,
+    bytes: &[u8],
+    central: &mut [u64],
+    peripheral: &mut [u16],
+    numbers: &mut [u64; 648],
+) -> Reader {
+    let mut now = r;
+    let mut i: usize = 0;
+    while i < bytes.len() {
+        let byte = bytes[i];
+        now = take_byte(now, byte, &mut *central, &mut *peripheral, &mut *numbers);
+        if is_over(now) {
+            return now;
+        }
+        i = i + 1;
+    }
+    now
+}
