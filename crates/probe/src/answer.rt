@@ -1,7 +1,15 @@
 // Writes the answer of a call: REFUSAL COUNT WORD MARK NC (address word)*NC NP (address word)*NP R0 .. R107 NS (turns stop)*NS
 ghost use Prim.Native.Nat.{_≤_};
 use super::line::RECORD;
+use super::memory;
 use octal::write::write_octal;
+
+// Writes the text up to this place.
+fn flush(text: &[u8], at: usize) {
+    if at <= text.len() {
+        io::write_all(1, &text[..at]);
+    }
+}
 
 // Room for a space and 22 digits: what was put so far is written where it leaves less.
 fn room(text: &[u8; 4096], at: usize) -> usize
@@ -11,7 +19,7 @@ fn room(text: &[u8; 4096], at: usize) -> usize
     if at <= 4073 {
         return at;
     }
-    io::write_all(1, &text[..at]);
+    flush(text, at);
     0
 }
 
@@ -23,30 +31,6 @@ fn put(text: &mut [u8; 4096], at: usize, n: u64) -> usize
     let start = room(&*text, at);
     text[start] = b' ';
     write_octal(&mut *text, start + 1, n)
-}
-
-fn central_count(memory: &[u64]) -> u64 {
-    let mut n: u64 = 0;
-    let mut i: usize = 0;
-    while i < memory.len() {
-        if memory[i] != 0 {
-            n = n + 1;
-        }
-        i = i + 1;
-    }
-    n
-}
-
-fn peripheral_count(memory: &[u16]) -> u64 {
-    let mut n: u64 = 0;
-    let mut i: usize = 0;
-    while i < memory.len() {
-        if memory[i] != 0 {
-            n = n + 1;
-        }
-        i = i + 1;
-    }
-    n
 }
 
 // The address of a word and the word; nothing of a zero.
@@ -61,43 +45,43 @@ fn put_word(text: &mut [u8; 4096], at: usize, address: usize, word: u64) -> usiz
     put(&mut *text, next, word)
 }
 
-fn put_central(text: &mut [u8; 4096], at: usize, memory: &[u64]) -> usize
+fn put_central(text: &mut [u8; 4096], at: usize, words: &[u64]) -> usize
     requires { ⌜ at ≤ 4096 ⌝ }
     ensures { λ r. ⌜ r ≤ 4096 ⌝ }
 {
-    let mut now = put(&mut *text, at, central_count(memory));
+    let mut next = put(&mut *text, at, memory::central_count(words));
     let mut i: usize = 0;
-    while i < memory.len() {
-        now = put_word(&mut *text, now, i, memory[i]);
+    while i < words.len() {
+        next = put_word(&mut *text, next, i, words[i]);
         i = i + 1;
     }
-    now
+    next
 }
 
-fn put_peripheral(text: &mut [u8; 4096], at: usize, memory: &[u16]) -> usize
+fn put_peripheral(text: &mut [u8; 4096], at: usize, words: &[u16]) -> usize
     requires { ⌜ at ≤ 4096 ⌝ }
     ensures { λ r. ⌜ r ≤ 4096 ⌝ }
 {
-    let mut now = put(&mut *text, at, peripheral_count(memory));
+    let mut next = put(&mut *text, at, memory::peripheral_count(words));
     let mut i: usize = 0;
-    while i < memory.len() {
-        now = put_word(&mut *text, now, i, memory[i] as u64);
+    while i < words.len() {
+        next = put_word(&mut *text, next, i, words[i] as u64);
         i = i + 1;
     }
-    now
+    next
 }
 
 fn put_record(text: &mut [u8; 4096], at: usize, numbers: &[u64; 648]) -> usize
     requires { ⌜ at ≤ 4096 ⌝ }
     ensures { λ r. ⌜ r ≤ 4096 ⌝ }
 {
-    let mut now = at;
+    let mut next = at;
     let mut i: usize = 0;
     while i < 108 {
-        now = put(&mut *text, now, numbers[RECORD + i]);
+        next = put(&mut *text, next, numbers[RECORD + i]);
         i = i + 1;
     }
-    now
+    next
 }
 
 // Ends the line and writes what is left of it.
@@ -106,7 +90,7 @@ fn end(text: &mut [u8; 4096], at: usize)
 {
     let start = room(&*text, at);
     text[start] = b'\n';
-    io::write_all(1, &text[..start + 1]);
+    flush(&*text, start + 1);
 }
 
 // The calls on the central record have no count, word, mark or stints.

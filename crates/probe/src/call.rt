@@ -46,12 +46,14 @@ fn keep_central_record(numbers: &mut [u64; 648], c: Central) {
     numbers[8] = c.fl;
     numbers[9] = c.em;
     numbers[34] = c.stop;
-    keep_registers(&mut *numbers, c.registers);
+    let registers = c.registers;
+    keep_registers(&mut *numbers, registers);
 }
 
 fn keep_answer(numbers: &mut [u64; 648], a: Answer) -> Outcome {
     let verdict = a.verdict;
-    keep_central_record(&mut *numbers, a.central);
+    let central = a.central;
+    keep_central_record(&mut *numbers, central);
     Outcome::Answer(verdict.number())
 }
 

@@ -4,17 +4,29 @@
 ghost use Prim.Native.Nat.{_<_};
 
 pub(crate) const CALL: usize = 0;
+
 pub(crate) const ARGUMENT: usize = 1;
+
 pub(crate) const CENTRAL_LENGTH: usize = 2;
+
 const CENTRAL_COUNT: usize = 3;
+
 pub(crate) const PERIPHERAL_LENGTH: usize = 4;
+
 const PERIPHERAL_COUNT: usize = 5;
+
 pub(crate) const RECORD: usize = 6;
+
 const JOB_COUNT: usize = 114;
+
 const JOBS: usize = 115;
+
 const STINT_COUNT: usize = 132;
+
 const STINTS: usize = 133;
+
 const TURN_COUNT: usize = 390;
+
 const TURNS: usize = 391;
 // One past the last place: the line is complete.
 const END: usize = 648;
@@ -75,6 +87,17 @@ fn pairs(address: Next, n: u64, after: usize) -> Position {
     }
 }
 
+// After one of the pairs.
+fn in_pairs(address: Next, left: u64, after: usize) -> Position {
+    if left <= 1 {
+        return number_at(after);
+    }
+    Position {
+        next: address,
+        left: left - 1,
+    }
+}
+
 // The first place of a list of n numbers, or the place after the room of the list.
 fn list(first: usize, n: u64, after: usize) -> Position
     requires { ⌜ first < after ⌝ }
@@ -129,7 +152,13 @@ fn take_number(numbers: &mut [u64; 648], place: usize, n: u64, left: u64) -> Pos
     after_number(place, n, left)
 }
 
-fn take_central_word(central: &mut [u64], numbers: &[u64; 648], address: u64, word: u64, left: u64) -> Position {
+fn take_central_word(
+    central: &mut [u64],
+    numbers: &[u64; 648],
+    address: u64,
+    word: u64,
+    left: u64,
+) -> Position {
     let i = address as usize;
     if central.len() <= i {
         return unreadable();
@@ -138,10 +167,16 @@ fn take_central_word(central: &mut [u64], numbers: &[u64; 648], address: u64, wo
         return unreadable();
     }
     central[i] = word;
-    pairs(Next::CentralAddress, left - 1, PERIPHERAL_LENGTH)
+    in_pairs(Next::CentralAddress, left, PERIPHERAL_LENGTH)
 }
 
-fn take_peripheral_word(peripheral: &mut [u16], numbers: &[u64; 648], address: u64, word: u64, left: u64) -> Position {
+fn take_peripheral_word(
+    peripheral: &mut [u16],
+    numbers: &[u64; 648],
+    address: u64,
+    word: u64,
+    left: u64,
+) -> Position {
     let i = address as usize;
     if peripheral.len() <= i {
         return unreadable();
@@ -153,11 +188,17 @@ fn take_peripheral_word(peripheral: &mut [u16], numbers: &[u64; 648], address: u
         return unreadable();
     }
     peripheral[i] = word as u16;
-    pairs(Next::PeripheralAddress, left - 1, RECORD)
+    in_pairs(Next::PeripheralAddress, left, RECORD)
 }
 
 // Takes the next number of the line.
-pub(crate) fn take(p: Position, n: u64, central: &mut [u64], peripheral: &mut [u16], numbers: &mut [u64; 648]) -> Position {
+pub(crate) fn take(
+    p: Position,
+    n: u64,
+    central: &mut [u64],
+    peripheral: &mut [u16],
+    numbers: &mut [u64; 648],
+) -> Position {
     let next = p.next;
     match next {
         Next::Number(place) => take_number(&mut *numbers, place, n, p.left),
@@ -165,12 +206,24 @@ pub(crate) fn take(p: Position, n: u64, central: &mut [u64], peripheral: &mut [u
             next: Next::CentralWord(n),
             left: p.left,
         },
-        Next::CentralWord(address) => take_central_word(&mut *central, &*numbers, address, n, p.left),
+        Next::CentralWord(address) => take_central_word(
+            &mut *central,
+            &*numbers,
+            address,
+            n,
+            p.left,
+        ),
         Next::PeripheralAddress => Position {
             next: Next::PeripheralWord(n),
             left: p.left,
         },
-        Next::PeripheralWord(address) => take_peripheral_word(&mut *peripheral, &*numbers, address, n, p.left),
+        Next::PeripheralWord(address) => take_peripheral_word(
+            &mut *peripheral,
+            &*numbers,
+            address,
+            n,
+            p.left,
+        ),
         Next::Unreadable => unreadable(),
     }
 }

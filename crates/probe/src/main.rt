@@ -3,18 +3,31 @@
 mod answer;
 mod call;
 mod line;
+mod memory;
 mod reader;
+
 use reader::Reader;
 
 // Answers the lines that end in the next bytes of the input.
-fn read_some(r: Reader, central: &mut [u64], peripheral: &mut [u16], numbers: &mut [u64; 648]) -> Reader {
+fn read_some(
+    r: Reader,
+    central: &mut [u64],
+    peripheral: &mut [u16],
+    numbers: &mut [u64; 648],
+) -> Reader {
     let mut buffer = io::large_buffer();
     let got = libc::read(0, &mut buffer);
     if got <= 0 {
         return reader::ended();
     }
     let n = io::count(got, &buffer);
-    reader::take_bytes(r, &buffer[..n], &mut *central, &mut *peripheral, &mut *numbers)
+    reader::take_bytes(
+        r,
+        &buffer[..n],
+        &mut *central,
+        &mut *peripheral,
+        &mut *numbers,
+    )
 }
 
 // A proved loop has to end, and nothing says that the input does: the count is one that no run uses up.

@@ -7,6 +7,7 @@ use super::line::CENTRAL_LENGTH;
 use super::line::Next;
 use super::line::PERIPHERAL_LENGTH;
 use super::line::Position;
+use super::memory;
 use octal::read::Digits;
 use octal::read::Fed;
 use octal::read::feed;
@@ -34,7 +35,8 @@ pub(crate) fn ended() -> Reader {
 }
 
 pub(crate) fn is_over(r: Reader) -> bool {
-    let next = r.position.next;
+    let position = r.position;
+    let next = position.next;
     match next {
         Next::Unreadable => true,
         _ => false,
@@ -46,27 +48,14 @@ fn unreadable() -> Reader {
     ended()
 }
 
-// Both memories to zero.
-fn clear(central: &mut [u64], peripheral: &mut [u16]) {
-    let mut i: usize = 0;
-    while i < central.len() {
-        central[i] = 0;
-        i = i + 1;
-    }
-    let mut k: usize = 0;
-    while k < peripheral.len() {
-        peripheral[k] = 0;
-        k = k + 1;
-    }
-}
-
 // Makes the call, writes its answer, and leaves the memories zero for the next line.
 fn answer_call(central: &mut [u64], peripheral: &mut [u16], numbers: &mut [u64; 648]) -> Reader {
     let outcome = call::make(&mut *central, &mut *numbers);
     match outcome {
         Outcome::Answer(refusal) => {
             answer::write(refusal, &*central, &*peripheral, &*numbers);
-            clear(&mut *central, &mut *peripheral);
+            memory::clear_central(&mut *central);
+            memory::clear_peripheral(&mut *peripheral);
             start()
         }
         Outcome::Unreadable => unreadable(),
@@ -74,7 +63,12 @@ fn answer_call(central: &mut [u64], peripheral: &mut [u16], numbers: &mut [u64; 
 }
 
 // At the end of a line, the call is made on memories of the lengths that the line gives.
-fn end_line(p: Position, central: &mut [u64], peripheral: &mut [u16], numbers: &mut [u64; 648]) -> Reader {
+fn end_line(
+    p: Position,
+    central: &mut [u64],
+    peripheral: &mut [u16],
+    numbers: &mut [u64; 648],
+) -> Reader {
     if !line::is_complete(p) {
         return unreadable();
     }
@@ -90,7 +84,14 @@ fn end_line(p: Position, central: &mut [u64], peripheral: &mut [u16], numbers: &
 }
 
 // One number of the line, and the byte after it.
-fn take_number(p: Position, n: u64, byte: u8, central: &mut [u64], peripheral: &mut [u16], numbers: &mut [u64; 648]) -> Reader {
+fn take_number(
+    p: Position,
+    n: u64,
+    byte: u8,
+    central: &mut [u64],
+    peripheral: &mut [u16],
+    numbers: &mut [u64; 648],
+) -> Reader {
     let next = line::take(p, n, &mut *central, &mut *peripheral, &mut *numbers);
     if byte == b'\n' {
         return end_line(next, &mut *central, &mut *peripheral, &mut *numbers);
@@ -98,12 +99,26 @@ fn take_number(p: Position, n: u64, byte: u8, central: &mut [u64], peripheral: &
     at(next)
 }
 
-fn take_byte(r: Reader, byte: u8, central: &mut [u64], peripheral: &mut [u16], numbers: &mut [u64; 648]) -> Reader {
+fn take_byte(
+    r: Reader,
+    byte: u8,
+    central: &mut [u64],
+    peripheral: &mut [u16],
+    numbers: &mut [u64; 648],
+) -> Reader {
     let position = r.position;
-    let fed = feed(r.digits, byte);
+    let digits = r.digits;
+    let fed = feed(digits, byte);
     match fed {
         Fed::More(digits) => Reader { digits, position },
-        Fed::Number(n) => take_number(position, n, byte, &mut *central, &mut *peripheral, &mut *numbers),
+        Fed::Number(n) => take_number(
+            position,
+            n,
+            byte,
+            &mut *central,
+            &mut *peripheral,
+            &mut *numbers,
+        ),
         Fed::Nothing => unreadable(),
         Fed::Unreadable => unreadable(),
     }
@@ -116,15 +131,21 @@ pub(crate) fn take_bytes(
     peripheral: &mut [u16],
     numbers: &mut [u64; 648],
 ) -> Reader {
-    let mut now = r;
+    let mut current = r;
     let mut i: usize = 0;
     while i < bytes.len() {
         let byte = bytes[i];
-        now = take_byte(now, byte, &mut *central, &mut *peripheral, &mut *numbers);
-        if is_over(now) {
-            return now;
+        current = take_byte(
+            current,
+            byte,
+            &mut *central,
+            &mut *peripheral,
+            &mut *numbers,
+        );
+        if is_over(current) {
+            return current;
         }
         i = i + 1;
     }
-    now
+    current
 }

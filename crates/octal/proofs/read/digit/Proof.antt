@@ -1,11 +1,10 @@
-use native.Mathlib.Omega.{arith}
+-- `octal::read::digit` meets its contract. Assumes nothing.
 use mathlib.Core.Path.{sym}
-use Rattle.octal.specs.Laws.Read.{room, no-room}
+use native.Mathlib.Omega.{arith}
 use borrow.Author.Needs.{needs}
+use Rattle.octal.specs.Laws.Read.{room, no-room}
 use Rattle.octal.proofs.read.digit.Statement.{statement}
 use Rattle.octal.proofs.read.digit.Tie as tie
-use Rattle.octal.proofs.read.digit.Reads as reads
-use Rattle.octal.proofs.read.digit.Lts as lts
 
 mul-t4 : tie.Need-mul-t4
 mul-t4 c = search needs

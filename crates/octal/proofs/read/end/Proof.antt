@@ -1,9 +1,8 @@
+-- `octal::read::end` meets its contract. Assumes nothing.
 use mathlib.Core.Path.{sym}
 use Rattle.octal.specs.Laws.Read.{ended, not-begun}
 use Rattle.octal.proofs.read.end.Statement.{statement}
 use Rattle.octal.proofs.read.end.Tie as tie
-use Rattle.octal.proofs.read.end.Reads as reads
-use Rattle.octal.proofs.read.end.Lts as lts
 
 returns : tie.Need-returns
 returns c = sym (ended _ (c .if1 .taken))

@@ -1,13 +1,10 @@
-use native.Mathlib.Omega.{arith}
+-- `octal::read::feed` meets its contract. Assumes nothing.
 use mathlib.Core.Path.{sym, _∙_}
-use Rattle.octal.specs.Laws.Read.{fed-space, fed-line-feed, fed-below, fed-above, fed-digit}
+use native.Mathlib.Omega.{arith}
 use borrow.Author.Needs.{needs}
+use Rattle.octal.specs.Laws.Read.{fed-space, fed-line-feed, fed-below, fed-above, fed-digit}
 use Rattle.octal.proofs.read.feed.Statement.{statement}
 use Rattle.octal.proofs.read.feed.Tie as tie
-use Rattle.octal.proofs.read.feed.Reads as reads
-use Rattle.octal.proofs.read.feed.Lts as lts
-use Rattle.octal.proofs.read.digit.Reads as digit-reads
-use Rattle.octal.proofs.read.end.Reads as end-reads
 
 end-requires : tie.Need-end-requires
 end-requires c κs = search needs

@@ -1,3 +1,4 @@
+-- `octal::write::width` meets its contract. Assumes nothing.
 use mathlib.Core.Path.{_≡_, refl, _∙_}
 use Prim.Native.Nat.{_≤_}
 use native.Mathlib.Omega.{arith}
@@ -5,8 +6,6 @@ use Rattle.octal.specs.Write.{widthIn}
 use Rattle.octal.specs.Laws.Write.{width-found, width-below, width-last}
 use Rattle.octal.proofs.write.width.Statement.{statement}
 use Rattle.octal.proofs.write.width.Tie as tie
-use Rattle.octal.proofs.write.width.Reads as reads
-use Rattle.octal.proofs.write.width.Lts as lts
 
 abbrev Inv-loop : tie.InvT-loop
 Inv-loop v k₀ k = (k ≤ 21) × (widthIn k v ≡ widthIn 21 v)

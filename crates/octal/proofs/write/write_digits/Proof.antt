@@ -1,11 +1,9 @@
+-- `octal::write::write_digits` meets its contract. Assumes nothing.
 use Prim.Native.Nat.{_≤_}
 use native.Mathlib.Omega.{arith}
 use Rattle.octal.specs.Laws.Write.{Writing, writing-start, writing-next, writing-end}
 use Rattle.octal.proofs.write.write_digits.Statement.{statement}
 use Rattle.octal.proofs.write.write_digits.Tie as tie
-use Rattle.octal.proofs.write.write_digits.Reads as reads
-use Rattle.octal.proofs.write.write_digits.Lts as lts
-use Rattle.octal.proofs.write.digit.Reads as digit-reads
 
 abbrev Inv-loop : tie.InvT-loop
 Inv-loop out₀ at n v i₀ k₀ out i k = (k ≤ n) × Writing out₀ at n v out i k

@@ -1,12 +1,9 @@
+-- `octal::write::write_octal` meets its contract. Assumes nothing.
 use native.Mathlib.Omega.{arith}
-use Rattle.octal.specs.Laws.Write.{width-le, wrote-octal}
 use borrow.Author.Needs.{needs}
+use Rattle.octal.specs.Laws.Write.{width-le, wrote-octal}
 use Rattle.octal.proofs.write.write_octal.Statement.{statement}
 use Rattle.octal.proofs.write.write_octal.Tie as tie
-use Rattle.octal.proofs.write.write_octal.Reads as reads
-use Rattle.octal.proofs.write.write_octal.Lts as lts
-use Rattle.octal.proofs.write.width.Reads as width-reads
-use Rattle.octal.proofs.write.write_digits.Reads as write-digits-reads
 
 width-requires : tie.Need-width-requires
 width-requires c κs = search needs
