@@ -1,3 +1,4 @@
--- What is proved from the definitions. Assumes nothing.
+-- Consequences of the definitions. Assumes nothing.
 pub mod Read
 pub mod Write
+pub mod Again

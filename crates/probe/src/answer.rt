@@ -1,18 +1,22 @@
 // Writes the answer of a call: REFUSAL COUNT WORD MARK NC (address word)*NC NP (address word)*NP R0 .. R107 NS (turns stop)*NS
 ghost use Prim.Native.Nat.{_≤_};
+ghost use lib.ListN.{length};
+use super::line::Numbers;
 use super::line::RECORD;
 use super::memory;
 use octal::write::write_octal;
 
-// Writes the text up to this place.
-fn flush(text: &[u8], at: usize) {
-    if at <= text.len() {
-        io::write_all(1, &text[..at]);
-    }
+type Text = [u8; 4096];
+
+// Sends the text up to this place to standard output.
+fn flush(text: &[u8], at: usize)
+    requires { ⌜ at ≤ length (now text) ⌝ }
+{
+    io::write_all(1, &text[..at]);
 }
 
-// Room for a space and 22 digits: what was put so far is written where it leaves less.
-fn room(text: &[u8; 4096], at: usize) -> usize
+// A place with room for a space and 22 digits: where this one has less, the text so far is sent and begins anew.
+fn room(text: &Text, at: usize) -> usize
     requires { ⌜ at ≤ 4096 ⌝ }
     ensures { λ r. ⌜ r ≤ 4073 ⌝ }
 {
@@ -24,7 +28,7 @@ fn room(text: &[u8; 4096], at: usize) -> usize
 }
 
 // A space and the number.
-fn put(text: &mut [u8; 4096], at: usize, n: u64) -> usize
+fn put(text: &mut Text, at: usize, n: u64) -> usize
     requires { ⌜ at ≤ 4096 ⌝ }
     ensures { λ r. ⌜ r ≤ 4096 ⌝ }
 {
@@ -34,7 +38,7 @@ fn put(text: &mut [u8; 4096], at: usize, n: u64) -> usize
 }
 
 // The address of a word and the word; nothing of a zero.
-fn put_word(text: &mut [u8; 4096], at: usize, address: usize, word: u64) -> usize
+fn put_word(text: &mut Text, at: usize, address: usize, word: u64) -> usize
     requires { ⌜ at ≤ 4096 ⌝ }
     ensures { λ r. ⌜ r ≤ 4096 ⌝ }
 {
@@ -45,7 +49,7 @@ fn put_word(text: &mut [u8; 4096], at: usize, address: usize, word: u64) -> usiz
     put(&mut *text, next, word)
 }
 
-fn put_central(text: &mut [u8; 4096], at: usize, words: &[u64]) -> usize
+fn put_central(text: &mut Text, at: usize, words: &[u64]) -> usize
     requires { ⌜ at ≤ 4096 ⌝ }
     ensures { λ r. ⌜ r ≤ 4096 ⌝ }
 {
@@ -58,7 +62,7 @@ fn put_central(text: &mut [u8; 4096], at: usize, words: &[u64]) -> usize
     next
 }
 
-fn put_peripheral(text: &mut [u8; 4096], at: usize, words: &[u16]) -> usize
+fn put_peripheral(text: &mut Text, at: usize, words: &[u16]) -> usize
     requires { ⌜ at ≤ 4096 ⌝ }
     ensures { λ r. ⌜ r ≤ 4096 ⌝ }
 {
@@ -71,7 +75,7 @@ fn put_peripheral(text: &mut [u8; 4096], at: usize, words: &[u16]) -> usize
     next
 }
 
-fn put_record(text: &mut [u8; 4096], at: usize, numbers: &[u64; 648]) -> usize
+fn put_record(text: &mut Text, at: usize, numbers: &Numbers) -> usize
     requires { ⌜ at ≤ 4096 ⌝ }
     ensures { λ r. ⌜ r ≤ 4096 ⌝ }
 {
@@ -84,8 +88,8 @@ fn put_record(text: &mut [u8; 4096], at: usize, numbers: &[u64; 648]) -> usize
     next
 }
 
-// Ends the line and writes what is left of it.
-fn end(text: &mut [u8; 4096], at: usize)
+// Ends the line and sends what is left of it.
+fn end(text: &mut Text, at: usize)
     requires { ⌜ at ≤ 4096 ⌝ }
 {
     let start = room(&*text, at);
@@ -93,16 +97,16 @@ fn end(text: &mut [u8; 4096], at: usize)
     flush(&*text, start + 1);
 }
 
-// The calls on the central record have no count, word, mark or stints.
-pub(crate) fn write(refusal: u64, central: &[u64], peripheral: &[u16], numbers: &[u64; 648]) {
+// COUNT, WORD, MARK and the stints are 0: the calls on the central record have none.
+pub(crate) fn write(refusal: u64, central: &[u64], peripheral: &[u16], numbers: &Numbers) {
     let mut text = [0u8; 4096];
-    let refused = write_octal(&mut text, 0, refusal);
-    let count = put(&mut text, refused, 0);
-    let word = put(&mut text, count, 0);
-    let mark = put(&mut text, word, 0);
-    let c = put_central(&mut text, mark, central);
-    let p = put_peripheral(&mut text, c, peripheral);
-    let record = put_record(&mut text, p, numbers);
-    let stints = put(&mut text, record, 0);
-    end(&mut text, stints);
+    let mut at = write_octal(&mut text, 0, refusal);
+    at = put(&mut text, at, 0);
+    at = put(&mut text, at, 0);
+    at = put(&mut text, at, 0);
+    at = put_central(&mut text, at, central);
+    at = put_peripheral(&mut text, at, peripheral);
+    at = put_record(&mut text, at, numbers);
+    at = put(&mut text, at, 0);
+    end(&mut text, at);
 }

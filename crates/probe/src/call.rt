@@ -1,6 +1,13 @@
 // Makes the call of a line on the memories and the record that it lends.
 use super::line::ARGUMENT;
 use super::line::CALL;
+use super::line::EM;
+use super::line::FL;
+use super::line::Numbers;
+use super::line::P;
+use super::line::RA;
+use super::line::REGISTERS;
+use super::line::STOP;
 use exchange::record::Central;
 use single::host::Answer;
 use single::host::central_turn;
@@ -14,50 +21,50 @@ pub(crate) enum Outcome {
 }
 
 // The 24 registers of the central record: they follow P, RA, FL and EM.
-fn registers(numbers: &[u64; 648]) -> [u64; 24] {
+fn registers(numbers: &Numbers) -> [u64; 24] {
     let mut all = [0u64; 24];
     for i in 0..24usize {
-        all[i] = numbers[10 + i];
+        all[i] = numbers[REGISTERS + i];
     }
     all
 }
 
-fn central_record(numbers: &[u64; 648]) -> Central {
+fn central_record(numbers: &Numbers) -> Central {
     let registers = registers(numbers);
     Central {
-        p: numbers[6],
-        ra: numbers[7],
-        fl: numbers[8],
-        em: numbers[9],
+        p: numbers[P],
+        ra: numbers[RA],
+        fl: numbers[FL],
+        em: numbers[EM],
         registers,
-        stop: numbers[34],
+        stop: numbers[STOP],
     }
 }
 
-fn keep_registers(numbers: &mut [u64; 648], registers: [u64; 24]) {
+fn keep_registers(numbers: &mut Numbers, registers: [u64; 24]) {
     for i in 0..24usize {
-        numbers[10 + i] = registers[i];
+        numbers[REGISTERS + i] = registers[i];
     }
 }
 
-fn keep_central_record(numbers: &mut [u64; 648], c: Central) {
-    numbers[6] = c.p;
-    numbers[7] = c.ra;
-    numbers[8] = c.fl;
-    numbers[9] = c.em;
-    numbers[34] = c.stop;
+fn keep_central_record(numbers: &mut Numbers, c: Central) {
+    numbers[P] = c.p;
+    numbers[RA] = c.ra;
+    numbers[FL] = c.fl;
+    numbers[EM] = c.em;
+    numbers[STOP] = c.stop;
     let registers = c.registers;
     keep_registers(&mut *numbers, registers);
 }
 
-fn keep_answer(numbers: &mut [u64; 648], a: Answer) -> Outcome {
+fn keep_answer(numbers: &mut Numbers, a: Answer) -> Outcome {
     let verdict = a.verdict;
     let central = a.central;
     keep_central_record(&mut *numbers, central);
     Outcome::Answer(verdict.number())
 }
 
-pub(crate) fn make(memory: &mut [u64], numbers: &mut [u64; 648]) -> Outcome {
+pub(crate) fn make(memory: &mut [u64], numbers: &mut Numbers) -> Outcome {
     let c = central_record(&*numbers);
     let call = numbers[CALL];
     if call == 1 {

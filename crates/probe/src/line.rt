@@ -14,8 +14,20 @@ const CENTRAL_COUNT: usize = 3;
 pub(crate) const PERIPHERAL_LENGTH: usize = 4;
 
 const PERIPHERAL_COUNT: usize = 5;
-
+// The record: of the central processor P, RA, FL, EM, 24 registers and the stop, then 79 numbers of the rest of the machine.
 pub(crate) const RECORD: usize = 6;
+
+pub(crate) const P: usize = 6;
+
+pub(crate) const RA: usize = 7;
+
+pub(crate) const FL: usize = 8;
+
+pub(crate) const EM: usize = 9;
+
+pub(crate) const REGISTERS: usize = 10;
+
+pub(crate) const STOP: usize = 34;
 
 const JOB_COUNT: usize = 114;
 
@@ -30,6 +42,8 @@ const TURN_COUNT: usize = 390;
 const TURNS: usize = 391;
 // One past the last place: the line is complete.
 const END: usize = 648;
+
+pub(crate) type Numbers = [u64; 648];
 
 // What the next number of a line is.
 pub(crate) enum Next {
@@ -144,7 +158,7 @@ fn after_number(place: usize, n: u64, left: u64) -> Position
     }
 }
 
-fn take_number(numbers: &mut [u64; 648], place: usize, n: u64, left: u64) -> Position {
+fn take_number(numbers: &mut Numbers, place: usize, n: u64, left: u64) -> Position {
     if END <= place {
         return unreadable();
     }
@@ -154,7 +168,7 @@ fn take_number(numbers: &mut [u64; 648], place: usize, n: u64, left: u64) -> Pos
 
 fn take_central_word(
     central: &mut [u64],
-    numbers: &[u64; 648],
+    numbers: &Numbers,
     address: u64,
     word: u64,
     left: u64,
@@ -172,7 +186,7 @@ fn take_central_word(
 
 fn take_peripheral_word(
     peripheral: &mut [u16],
-    numbers: &[u64; 648],
+    numbers: &Numbers,
     address: u64,
     word: u64,
     left: u64,
@@ -197,7 +211,7 @@ pub(crate) fn take(
     n: u64,
     central: &mut [u64],
     peripheral: &mut [u16],
-    numbers: &mut [u64; 648],
+    numbers: &mut Numbers,
 ) -> Position {
     let next = p.next;
     match next {

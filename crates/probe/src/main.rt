@@ -6,6 +6,7 @@ mod line;
 mod memory;
 mod reader;
 
+use line::Numbers;
 use reader::Reader;
 
 // Answers the lines that end in the next bytes of the input.
@@ -13,7 +14,7 @@ fn read_some(
     r: Reader,
     central: &mut [u64],
     peripheral: &mut [u16],
-    numbers: &mut [u64; 648],
+    numbers: &mut Numbers,
 ) -> Reader {
     let mut buffer = io::large_buffer();
     let got = libc::read(0, &mut buffer);
@@ -31,7 +32,7 @@ fn read_some(
 }
 
 // A proved loop has to end, and nothing says that the input does: the count is one that no run uses up.
-fn read_all(central: &mut [u64], peripheral: &mut [u16], numbers: &mut [u64; 648]) {
+fn read_all(central: &mut [u64], peripheral: &mut [u16], numbers: &mut Numbers) {
     let mut r = reader::start();
     let mut turns = u64::MAX;
     while 0 < turns {

@@ -5,6 +5,7 @@ use super::call::Outcome;
 use super::line;
 use super::line::CENTRAL_LENGTH;
 use super::line::Next;
+use super::line::Numbers;
 use super::line::PERIPHERAL_LENGTH;
 use super::line::Position;
 use super::memory;
@@ -49,7 +50,7 @@ fn unreadable() -> Reader {
 }
 
 // Makes the call, writes its answer, and leaves the memories zero for the next line.
-fn answer_call(central: &mut [u64], peripheral: &mut [u16], numbers: &mut [u64; 648]) -> Reader {
+fn answer_call(central: &mut [u64], peripheral: &mut [u16], numbers: &mut Numbers) -> Reader {
     let outcome = call::make(&mut *central, &mut *numbers);
     match outcome {
         Outcome::Answer(refusal) => {
@@ -67,7 +68,7 @@ fn end_line(
     p: Position,
     central: &mut [u64],
     peripheral: &mut [u16],
-    numbers: &mut [u64; 648],
+    numbers: &mut Numbers,
 ) -> Reader {
     if !line::is_complete(p) {
         return unreadable();
@@ -90,7 +91,7 @@ fn take_number(
     byte: u8,
     central: &mut [u64],
     peripheral: &mut [u16],
-    numbers: &mut [u64; 648],
+    numbers: &mut Numbers,
 ) -> Reader {
     let next = line::take(p, n, &mut *central, &mut *peripheral, &mut *numbers);
     if byte == b'\n' {
@@ -104,7 +105,7 @@ fn take_byte(
     byte: u8,
     central: &mut [u64],
     peripheral: &mut [u16],
-    numbers: &mut [u64; 648],
+    numbers: &mut Numbers,
 ) -> Reader {
     let position = r.position;
     let digits = r.digits;
@@ -129,7 +130,7 @@ pub(crate) fn take_bytes(
     bytes: &[u8],
     central: &mut [u64],
     peripheral: &mut [u16],
-    numbers: &mut [u64; 648],
+    numbers: &mut Numbers,
 ) -> Reader {
     let mut current = r;
     let mut i: usize = 0;

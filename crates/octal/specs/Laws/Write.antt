@@ -20,14 +20,17 @@ unfolding digits
 length-digits zero v = refl
 length-digits (suc n) v = ap suc (length-digits n v)
 
-either-le : (n : ℕ) {x y : ℕ} (t : Bool) → x ≤ n → y ≤ n → cond t x y ≤ n
-either-le n true h k = h
-either-le n false h k = k
+-- what holds of each choice under its test holds of the choice
+pub of-cond : {A : Type 0} (P : A → Type 0) (t : Bool) {x y : A} → (t ≡ true → P x) → (t ≡ false → P y) → P (cond t x y)
+of-cond P true f g = f refl
+of-cond P false f g = g refl
 
 pub width-le : (n v : ℕ) → widthIn n v ≤ suc n
 unfolding widthIn
 width-le zero v = omega arith
-width-le (suc n) v = let h = width-le n v in either-le (suc (suc n)) (eqb (v / 2 ^ (3 * suc n) % 8) 0) (omega arith) (omega arith)
+width-le (suc n) v =
+    let h = width-le n v in
+    of-cond (λ (w : ℕ). w ≤ suc (suc n)) (eqb (v / 2 ^ (3 * suc n) % 8) 0) (λ e. omega arith) (λ e. omega arith)
 
 pub length-octal : (v : ℕ) → length (octal v) ≤ 22
 unfolding octal
