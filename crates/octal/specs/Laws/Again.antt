@@ -29,7 +29,7 @@ bytes-are zero v = refl
 bytes-are (suc n) v = ap (λ (l : List ℕ). (48 + v / 2 ^ (3 * n) % 8) ∷ l) (bytes-are n v)
 
 gather : (u d p r : ℕ) → (u * 8 + d) * p + r ≡ u * (8 * p) + (d * p + r)
-gather u d p r = ap (λ (x : ℕ). x + r) (add-mul (u * 8) d p ∙ ap (λ (x : ℕ). x + d * p) (mul-assoc u 8 p)) ∙ add-assoc (u * (8 * p)) (d * p) r
+gather u d p r = rw (add-mul (u * 8) d p, mul-assoc u 8 p) (add-assoc (u * (8 * p)) (d * p) r)
 
 -- their value, after digits with the value u
 values-are : (u n v : ℕ) → valueFrom u (digitValues n v) ≡ u * 2 ^ (3 * n) + v % 2 ^ (3 * n)

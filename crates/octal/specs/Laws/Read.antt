@@ -1,10 +1,10 @@
--- The reader gives the value of the digits that it is fed. Assumes nothing.
-use mathlib.Core.Bool.{Bool, true, false, cond}
+-- The reader gives the value of the digits that it is fed, or finds it too large. Assumes nothing.
+use mathlib.Core.Bool.{Bool, true, false}
 use mathlib.Core.List.{List, [], _∷_, _++_}
 use mathlib.Core.Path.{_≡_, refl, sym, ap, _∙_}
 use Prim.Native.Nat.{ℕ, _+_, _-_, _*_, _^_, _≤_, _<_}
 use native.Mathlib.Omega.{arith}
-use borrow.Author.Tests.{lt-ltb, le-ltb, lt-leb, le-leb, eq-eqb, ne-eqb}
+use borrow.Author.Tests.{ltb-true, ltb-false, lt-ltb, le-ltb, lt-leb, le-leb, eq-eqb, ne-eqb}
 use lib.Dec.{ltb}
 use Rattle.octal.specs.Read.{digitsOf, noDigits, afterDigit, afterEnd, feedOf}
 use Rattle.octal.specs.declared.read.Digits.{Digits}
@@ -88,7 +88,8 @@ end-space : (v : ℕ) → feedOf (digitsOf v true) 32 ≡ Number v
 end-space v = fed-space (digitsOf v true) 32 refl ∙ ended (digitsOf v true) refl
 
 -- digits that follow others, and a space: the value of all
-more-digits : (v : ℕ) (ns : List ℕ) → Octal ns → valueFrom v ns < 2 ^ 64 → feedAll (More (digitsOf v true)) (bytesOf ns ++ (32 ∷ [])) ≡ Number (valueFrom v ns)
+more-digits : (v : ℕ) (ns : List ℕ) → Octal ns → valueFrom v ns < 2 ^ 64
+    → feedAll (More (digitsOf v true)) (bytesOf ns ++ (32 ∷ [])) ≡ Number (valueFrom v ns)
 unfolding feedAll bytesOf valueFrom
 more-digits v [] o h = end-space v
 more-digits v (n ∷ ns) o h =
@@ -102,3 +103,30 @@ unfolding feedAll bytesOf valueFrom
 digits-then-space n ns o h =
     ap (λ (f : Fed). feedAll f (bytesOf ns ++ (32 ∷ []))) (feed-digit 0 false n (o .0) (omega (arith, le-valueFrom (0 * 8 + n) ns)))
     ∙ more-digits (0 * 8 + n) ns (o .1) h
+
+feed-too-large : (v : ℕ) (b : Bool) (n : ℕ) → n < 8 → 2 ^ 64 ≤ v * 8 + n → feedOf (digitsOf v b) (48 + n) ≡ Unreadable
+feed-too-large v b n h k =
+    fed-digit (digitsOf v b) (48 + n) (λ p. omega arith) (λ p. omega arith) (omega arith) (omega arith)
+    ∙ no-room (digitsOf v b) (48 + n - 48) (omega arith)
+
+stays-unreadable : (bytes : List ℕ) → feedAll Unreadable bytes ≡ Unreadable
+unfolding feedAll
+stays-unreadable [] = refl
+stays-unreadable (byte ∷ bytes) = refl
+
+next-too-large : (v : ℕ) (b : Bool) (n : ℕ) (bytes : List ℕ) → n < 8
+    → (v * 8 + n < 2 ^ 64 → feedAll (More (digitsOf (v * 8 + n) true)) bytes ≡ Unreadable)
+    → (t : Bool) → ltb (v * 8 + n) (2 ^ 64) ≡ t → feedAll (feedOf (digitsOf v b) (48 + n)) bytes ≡ Unreadable
+next-too-large v b n bytes h rest true e =
+    let k = ltb-true (v * 8 + n) (2 ^ 64) e in
+    ap (λ (f : Fed). feedAll f bytes) (feed-digit v b n h k) ∙ rest k
+next-too-large v b n bytes h rest false e =
+    ap (λ (f : Fed). feedAll f bytes) (feed-too-large v b n h (ltb-false (v * 8 + n) (2 ^ 64) e)) ∙ stays-unreadable bytes
+
+-- digits whose value is 2^64 or more are not read
+pub digits-too-large : (v : ℕ) (b : Bool) (ns : List ℕ) → Octal ns → v < 2 ^ 64 → 2 ^ 64 ≤ valueFrom v ns
+    → feedAll (More (digitsOf v b)) (bytesOf ns) ≡ Unreadable
+unfolding feedAll bytesOf valueFrom
+digits-too-large v b [] o h k = absurd (omega arith)
+digits-too-large v b (n ∷ ns) o h k =
+    next-too-large v b n (bytesOf ns) (o .0) (λ l. digits-too-large (v * 8 + n) true ns (o .1) l k) (ltb (v * 8 + n) (2 ^ 64)) refl

@@ -12,7 +12,8 @@ use lib.Seq.{sets, length-sets}
 use Rattle.octal.specs.Write.{digitOf, digits, widthIn, octal, Wrote}
 
 -- writing changes no length
-pub length-wrote : {before after : List ℕ} {at next : ℕ} {bytes : List ℕ} → Wrote before at bytes after next → length after ≡ length before
+pub length-wrote : {before after : List ℕ} {at next : ℕ} {bytes : List ℕ} → Wrote before at bytes after next
+    → length after ≡ length before
 length-wrote {before = before} {at = at} {bytes = bytes} w = ap length (w .is) ∙ length-sets before at bytes
 
 pub length-digits : (n v : ℕ) → length (digits n v) ≡ n

@@ -6,7 +6,8 @@ use Rattle.probe.proofs.read_all.Statement.{statement}
 use Rattle.probe.proofs.read_all.Tie as tie
 
 abbrev Inv-loop : tie.InvT-loop
-Inv-loop central₀ peripheral₀ numbers₀ r₀ turns₀ central peripheral numbers r turns = (length central ≡ length central₀) × (length peripheral ≡ length peripheral₀)
+Inv-loop central₀ peripheral₀ numbers₀ r₀ turns₀ central peripheral numbers r turns =
+    (length central ≡ length central₀) × (length peripheral ≡ length peripheral₀)
 
 abbrev μ-loop : tie.MeasureT-loop
 μ-loop central₀ peripheral₀ numbers₀ r₀ turns₀ central peripheral numbers r turns = turns

@@ -22,7 +22,10 @@ returns-3 : tie.Need-returns-3
 returns-3 c = sym (fed-below _ _ (c .before .before .if1 .left) (c .before .if2 .left) (omega (arith, c .if3 .taken)))
 
 returns-4 : tie.Need-returns-4
-returns-4 c = sym (fed-above _ _ (c .before .before .before .if1 .left) (c .before .before .if2 .left) (omega (arith, c .before .if3 .left)) (omega (arith, c .if4 .taken)))
+returns-4 c =
+    sym
+    (fed-above _ _ (c .before .before .before .if1 .left) (c .before .before .if2 .left) (omega (arith, c .before .if3 .left))
+    (omega (arith, c .if4 .taken)))
 
 cast-digit : tie.Need-cast-digit
 cast-digit c = search needs
@@ -31,7 +34,12 @@ digit-requires : tie.Need-digit-requires
 digit-requires c κs = search needs
 
 returns-5 : tie.Need-returns-5
-returns-5 c = c .digit .ensures ∙ sym (fed-digit _ _ (c .before .before .before .before .if1 .left) (c .before .before .before .if2 .left) (omega (arith, c .before .before .if3 .left)) (omega (arith, c .before .if4 .left)))
+returns-5 c =
+    c .digit .ensures
+    ∙ sym
+    (fed-digit _ _ (c .before .before .before .before .if1 .left) (c .before .before .before .if2 .left)
+    (omega (arith, c .before .before .if3 .left))
+    (omega (arith, c .before .if4 .left)))
 
 pub feed-spec : {M : Type 1} → statement M
 feed-spec =

@@ -9,7 +9,9 @@ width-requires : tie.Need-width-requires
 width-requires c κs = search needs
 
 write-digits-requires : tie.Need-write-digits-requires
-write-digits-requires c κs = let e = width-le 21 (c .before .before .before .args .v) in (omega (arith, c .before .width .ensures), omega (arith, c .before .width .ensures))
+write-digits-requires c κs =
+    let e = width-le 21 (c .before .before .before .args .v) in
+    (omega (arith, c .before .width .ensures), omega (arith, c .before .width .ensures))
 
 same-length : tie.Need-same-length
 same-length c = search needs

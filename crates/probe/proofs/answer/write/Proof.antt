@@ -12,7 +12,8 @@ write-octal-requires : tie.Need-write-octal-requires
 write-octal-requires c κs = search needs
 
 put-requires : tie.Need-put-requires
-put-requires c κs = omega (arith, c .before .before .write-octal .ensures .ends, length-octal (c .before .before .before .before .before .before .args .refusal))
+put-requires c κs =
+    omega (arith, c .before .before .write-octal .ensures .ends, length-octal (c .before .before .before .before .before .before .args .refusal))
 
 put-requires-2 : tie.Need-put-requires-2
 put-requires-2 c κs = search needs

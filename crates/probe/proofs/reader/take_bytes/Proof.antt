@@ -7,7 +7,8 @@ use Rattle.probe.proofs.reader.take_bytes.Statement.{statement}
 use Rattle.probe.proofs.reader.take_bytes.Tie as tie
 
 abbrev Inv-loop : tie.InvT-loop
-Inv-loop bytes central₀ peripheral₀ numbers₀ current₀ i₀ central peripheral numbers current i = (length central ≡ length central₀) × (length peripheral ≡ length peripheral₀)
+Inv-loop bytes central₀ peripheral₀ numbers₀ current₀ i₀ central peripheral numbers current i =
+    (length central ≡ length central₀) × (length peripheral ≡ length peripheral₀)
 
 abbrev μ-loop : tie.MeasureT-loop
 μ-loop bytes central₀ peripheral₀ numbers₀ current₀ i₀ central peripheral numbers current i = length bytes - i
