@@ -30,7 +30,7 @@ pub(crate) fn start() -> Reader {
     at(line::start())
 }
 
-// No line can come.
+// No further line is read.
 pub(crate) fn ended() -> Reader {
     at(line::unreadable())
 }
@@ -44,11 +44,6 @@ pub(crate) fn is_over(r: Reader) -> bool {
     }
 }
 
-fn unreadable() -> Reader {
-    io::write_all(1, b"unreadable\n");
-    ended()
-}
-
 // Makes the call, writes its answer, and leaves the memories zero for the next line.
 fn answer_call(central: &mut [u64], peripheral: &mut [u16], numbers: &mut Numbers) -> Reader {
     let outcome = call::make(&mut *central, &mut *numbers);
@@ -59,11 +54,11 @@ fn answer_call(central: &mut [u64], peripheral: &mut [u16], numbers: &mut Number
             memory::clear_peripheral(&mut *peripheral);
             start()
         }
-        Outcome::Unreadable => unreadable(),
+        Outcome::Unreadable => ended(),
     }
 }
 
-// At the end of a line, the call is made on memories of the lengths that the line gives.
+// The call of a complete line is made on memories of the lengths that the line gives.
 fn end_line(
     p: Position,
     central: &mut [u64],
@@ -71,15 +66,15 @@ fn end_line(
     numbers: &mut Numbers,
 ) -> Reader {
     if !line::is_complete(p) {
-        return unreadable();
+        return ended();
     }
     let c = numbers[CENTRAL_LENGTH] as usize;
     let k = numbers[PERIPHERAL_LENGTH] as usize;
     if central.len() < c {
-        return unreadable();
+        return ended();
     }
     if peripheral.len() < k {
-        return unreadable();
+        return ended();
     }
     answer_call(&mut central[..c], &mut peripheral[..k], &mut *numbers)
 }
@@ -120,11 +115,17 @@ fn take_byte(
             &mut *peripheral,
             &mut *numbers,
         ),
-        Fed::Nothing => unreadable(),
-        Fed::Unreadable => unreadable(),
+        Fed::Nothing => ended(),
+        Fed::Unreadable => ended(),
     }
 }
 
+fn unreadable_line() -> Reader {
+    io::write_all(1, b"unreadable\n");
+    ended()
+}
+
+// Stops at the first line that is not readable.
 pub(crate) fn take_bytes(
     r: Reader,
     bytes: &[u8],
@@ -144,7 +145,7 @@ pub(crate) fn take_bytes(
             &mut *numbers,
         );
         if is_over(current) {
-            return current;
+            return unreadable_line();
         }
         i = i + 1;
     }

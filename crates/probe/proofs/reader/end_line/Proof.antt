@@ -8,8 +8,8 @@ use Rattle.probe.proofs.reader.end_line.Tie as tie
 is-complete-requires : tie.Need-is-complete-requires
 is-complete-requires c κs = search needs
 
-unreadable-requires : tie.Need-unreadable-requires
-unreadable-requires c κs = search needs
+ended-requires : tie.Need-ended-requires
+ended-requires c κs = search needs
 
 returns : tie.Need-returns
 returns c = search needs
@@ -20,14 +20,14 @@ element-copy-out-c c = search needs
 element-copy-out-k : tie.Need-element-copy-out-k
 element-copy-out-k c = search needs
 
-unreadable-requires-2 : tie.Need-unreadable-requires-2
-unreadable-requires-2 c κs = search needs
+ended-requires-2 : tie.Need-ended-requires-2
+ended-requires-2 c κs = search needs
 
 returns-2 : tie.Need-returns-2
 returns-2 c = search needs
 
-unreadable-requires-3 : tie.Need-unreadable-requires-3
-unreadable-requires-3 c κs = search needs
+ended-requires-3 : tie.Need-ended-requires-3
+ended-requires-3 c κs = search needs
 
 returns-3 : tie.Need-returns-3
 returns-3 c = search needs
@@ -61,13 +61,13 @@ end-line-spec =
     tie.close
     (tie.spec
     is-complete-requires
-    unreadable-requires
+    ended-requires
     returns
     element-copy-out-c
     element-copy-out-k
-    unreadable-requires-2
+    ended-requires-2
     returns-2
-    unreadable-requires-3
+    ended-requires-3
     returns-3
     slice-relend-prefix-answer-call
     slice-aggregate-answer-call

@@ -25,6 +25,9 @@ take-byte-requires c κs = search needs
 is-over-requires : tie.Need-is-over-requires Inv-loop μ-loop
 is-over-requires c κs = search needs
 
+unreadable-line-requires : tie.Need-unreadable-line-requires Inv-loop μ-loop
+unreadable-line-requires c κs = search needs
+
 same-length : tie.Need-same-length Inv-loop μ-loop
 same-length c = search needs
 
@@ -62,6 +65,7 @@ take-bytes-spec =
     shared-slice-read-byte
     take-byte-requires
     is-over-requires
+    unreadable-line-requires
     same-length
     same-length-2
     returns
