@@ -1,0 +1,14 @@
+-- `octal::read::end` meets its contract. Assumes nothing.
+use mathlib.Core.Path.{sym}
+use Rattle.octal.proofs.read.end.Tie as tie
+use Rattle.octal.specs.Laws.Read.{ended, not-begun}
+use Rattle.octal.proofs.read.end.Statement.{statement}
+
+returns : tie.Need-returns
+returns c = sym (ended _ (c .if1 .taken))
+
+returns-2 : tie.Need-returns-2
+returns-2 c = sym (not-begun _ (c .if1 .left))
+
+pub end-spec : {M : Type 1} → statement M
+end-spec = tie.close (tie.spec returns returns-2)

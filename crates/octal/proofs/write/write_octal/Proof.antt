@@ -1,0 +1,23 @@
+-- `octal::write::write_octal` meets its contract. Assumes nothing.
+use native.Mathlib.Omega.{arith}
+use borrow.Author.Needs.{needs}
+use Rattle.octal.proofs.write.write_octal.Tie as tie
+use Rattle.octal.specs.Laws.Write.{width-le, wrote-octal}
+use Rattle.octal.proofs.write.write_octal.Statement.{statement}
+
+width-requires : tie.Need-width-requires
+width-requires c κs = search needs
+
+write-digits-requires : tie.Need-write-digits-requires
+write-digits-requires c κs =
+    let e = width-le 21 (c .before .before .before .args .v) in
+    (omega (arith, c .before .width .ensures), omega (arith, c .before .width .ensures))
+
+same-length : tie.Need-same-length
+same-length c = search needs
+
+returns : tie.Need-returns
+returns c = wrote-octal _ (c .before .before .before .before .width .ensures) (c .before .before .write-digits .ensures)
+
+pub write-octal-spec : {M : Type 1} → statement M
+write-octal-spec = tie.close (tie.spec width-requires write-digits-requires same-length returns)

@@ -1,0 +1,3 @@
+// Numbers as text in octal digits.
+pub mod read;
+pub mod write;

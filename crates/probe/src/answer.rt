@@ -1,0 +1,112 @@
+// Writes the answer of a call: REFUSAL COUNT WORD MARK NC (address word)*NC NP (address word)*NP R0 .. R107 NS (turns stop)*NS
+ghost use Prim.Native.Nat.{_≤_};
+ghost use lib.ListN.{length};
+use super::line::Numbers;
+use super::line::RECORD;
+use super::memory;
+use octal::write::write_octal;
+
+type Text = [u8; 4096];
+
+// Sends the text up to this place to standard output.
+fn flush(text: &[u8], at: usize)
+    requires { ⌜ at ≤ length (now text) ⌝ }
+{
+    io::write_all(1, &text[..at]);
+}
+
+// A place with room for a space and 22 digits: where this one has less, the text so far is sent and begins anew.
+fn room(text: &Text, at: usize) -> usize
+    requires { ⌜ at ≤ 4096 ⌝ }
+    ensures { λ r. ⌜ r ≤ 4073 ⌝ }
+{
+    if at <= 4073 {
+        return at;
+    }
+    flush(text, at);
+    0
+}
+
+// A space and the number.
+fn put(text: &mut Text, at: usize, n: u64) -> usize
+    requires { ⌜ at ≤ 4096 ⌝ }
+    ensures { λ r. ⌜ r ≤ 4096 ⌝ }
+{
+    let start = room(&*text, at);
+    text[start] = b' ';
+    write_octal(&mut *text, start + 1, n)
+}
+
+// The address of a word and the word; nothing of a zero.
+fn put_word(text: &mut Text, at: usize, address: usize, word: u64) -> usize
+    requires { ⌜ at ≤ 4096 ⌝ }
+    ensures { λ r. ⌜ r ≤ 4096 ⌝ }
+{
+    if word == 0 {
+        return at;
+    }
+    let next = put(&mut *text, at, address as u64);
+    put(&mut *text, next, word)
+}
+
+fn put_central(text: &mut Text, at: usize, words: &[u64]) -> usize
+    requires { ⌜ at ≤ 4096 ⌝ }
+    ensures { λ r. ⌜ r ≤ 4096 ⌝ }
+{
+    let mut next = put(&mut *text, at, memory::central_count(words));
+    let mut i: usize = 0;
+    while i < words.len() {
+        next = put_word(&mut *text, next, i, words[i]);
+        i = i + 1;
+    }
+    next
+}
+
+fn put_peripheral(text: &mut Text, at: usize, words: &[u16]) -> usize
+    requires { ⌜ at ≤ 4096 ⌝ }
+    ensures { λ r. ⌜ r ≤ 4096 ⌝ }
+{
+    let mut next = put(&mut *text, at, memory::peripheral_count(words));
+    let mut i: usize = 0;
+    while i < words.len() {
+        next = put_word(&mut *text, next, i, words[i] as u64);
+        i = i + 1;
+    }
+    next
+}
+
+fn put_record(text: &mut Text, at: usize, numbers: &Numbers) -> usize
+    requires { ⌜ at ≤ 4096 ⌝ }
+    ensures { λ r. ⌜ r ≤ 4096 ⌝ }
+{
+    let mut next = at;
+    let mut i: usize = 0;
+    while i < 108 {
+        next = put(&mut *text, next, numbers[RECORD + i]);
+        i = i + 1;
+    }
+    next
+}
+
+// Ends the line and sends what is left of it.
+fn end(text: &mut Text, at: usize)
+    requires { ⌜ at ≤ 4096 ⌝ }
+{
+    let start = room(&*text, at);
+    text[start] = b'\n';
+    flush(&*text, start + 1);
+}
+
+// COUNT, WORD, MARK and the stints are 0: the calls on the central record have none.
+pub(crate) fn write(refusal: u64, central: &[u64], peripheral: &[u16], numbers: &Numbers) {
+    let mut text = [0u8; 4096];
+    let mut at = write_octal(&mut text, 0, refusal);
+    at = put(&mut text, at, 0);
+    at = put(&mut text, at, 0);
+    at = put(&mut text, at, 0);
+    at = put_central(&mut text, at, central);
+    at = put_peripheral(&mut text, at, peripheral);
+    at = put_record(&mut text, at, numbers);
+    at = put(&mut text, at, 0);
+    end(&mut text, at);
+}
