@@ -28,20 +28,20 @@ fn turn_if_running(m: &mut [u64], c: Central) -> Central
 }
 
 // One turn of the central processor.
-pub fn central_turn(m: &mut [u64], c: Central) -> Answer
-    ensures { λ o. ⌜ answerTo (now (m .exit)) o ≡ turnAnswer (now (m .entry)) c ⌝ }
+pub fn central_turn(memory: &mut [u64], central: Central) -> Answer
+    ensures { λ o. ⌜ answerTo (now (memory .exit)) o ≡ turnAnswer (now (memory .entry)) central ⌝ }
 {
-    match host_verdict(&*m, c) {
+    match host_verdict(&*memory, central) {
         Verdict::Accepted => {
-            let central = turn_if_running(&mut *m, c);
+            let after = turn_if_running(&mut *memory, central);
             Answer {
                 verdict: Verdict::Accepted,
-                central,
+                central: after,
             }
         }
         Verdict::Refused(r) => Answer {
             verdict: Verdict::Refused(r),
-            central: c,
+            central,
         },
     }
 }
@@ -56,20 +56,20 @@ fn exchange_verdict(m: &[u64], c: Central, at: u64) -> Verdict
 }
 
 // An exchange jump at the package with this address.
-pub fn exchange(m: &mut [u64], c: Central, at: u64) -> Answer
-    ensures { λ o. ⌜ answerTo (now (m .exit)) o ≡ exchangeAnswer (now (m .entry)) c at ⌝ }
+pub fn exchange(memory: &mut [u64], central: Central, address: u64) -> Answer
+    ensures { λ o. ⌜ answerTo (now (memory .exit)) o ≡ exchangeAnswer (now (memory .entry)) central address ⌝ }
 {
-    match exchange_verdict(&*m, c, at) {
+    match exchange_verdict(&*memory, central, address) {
         Verdict::Accepted => {
-            let central = exchange_jump(&mut *m, c, at as usize);
+            let after = exchange_jump(&mut *memory, central, address as usize);
             Answer {
                 verdict: Verdict::Accepted,
-                central,
+                central: after,
             }
         }
         Verdict::Refused(r) => Answer {
             verdict: Verdict::Refused(r),
-            central: c,
+            central,
         },
     }
 }

@@ -74,24 +74,24 @@ fn run_verdict(m: &[u64], c: Central, at: u64, n: u64) -> Verdict
     }
 }
 
-// Runs the program of the package at this address for up to n turns. The record comes back as it was, its stop included.
-pub fn run_program(m: &mut [u64], c: Central, at: u64, n: u64) -> RunAnswer
-    ensures { λ o. ⌜ runTo (now (m .exit)) o ≡ runAnswer (now (m .entry)) c at n ⌝ }
+// Runs the program of the package at this address for up to so many turns. The record comes back as it was, its stop included.
+pub fn run_program(memory: &mut [u64], central: Central, address: u64, turns: u64) -> RunAnswer
+    ensures { λ o. ⌜ runTo (now (memory .exit)) o ≡ runAnswer (now (memory .entry)) central address turns ⌝ }
 {
-    match run_verdict(&*m, c, at, n) {
+    match run_verdict(&*memory, central, address, turns) {
         Verdict::Accepted => {
-            let o = stint(&mut *m, c, at as usize, n);
-            let central = o.central;
+            let o = stint(&mut *memory, central, address as usize, turns);
+            let after = o.central;
             RunAnswer {
                 verdict: Verdict::Accepted,
-                central,
+                central: after,
                 turns: o.turns,
                 stop: o.stop,
             }
         }
         Verdict::Refused(r) => RunAnswer {
             verdict: Verdict::Refused(r),
-            central: c,
+            central,
             turns: 0,
             stop: 0,
         },
