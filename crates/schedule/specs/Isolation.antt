@@ -1,0 +1,118 @@
+-- Demand 3, in the order of document 01, "Words of demand 3". Laws.Isolation proves it. Assumes nothing.
+use mathlib.Core.Bool.{cond}
+use mathlib.Core.List.{List, [], _∷_}
+use mathlib.Core.Logic.{_⊎_}
+use mathlib.Core.Path.{_≡_}
+use Prim.Native.Nat.{ℕ, _+_, _≤_, _<_}
+use lib.Dec.{eqb}
+use lib.ListN.{length, getD}
+use Rattle.outcome.specs.declared.refusal.Verdict.the-variants as Call
+use Rattle.exchange.specs.Jump.{recordAt}
+use Rattle.exchange.specs.Memory.{part}
+use Rattle.exchange.specs.declared.record.Central.{Central}
+use Rattle.schedule.specs.Schedule.{Schedule, played}
+use Rattle.schedule.specs.Refusals.{scheduleVerdict}
+
+-- "it is accepted where no number refuses it"; a record of the host's has 24 registers by its type
+pub record Accepted (s : Schedule) : Type 0 where
+  pub verdict : scheduleVerdict s ≡ Call.Accepted
+  pub registers : length (s .central .registers) ≡ 24
+
+-- "The start is the memory given, the end the memory handed back."
+abbrev pub start : Schedule → List ℕ
+start s = s .memory
+
+abbrev pub end : Schedule → List ℕ
+end s = played s .memory
+
+-- the address of a job's package, and the record there at the start
+abbrev pub packageAddress : Schedule → ℕ → ℕ
+packageAddress s i = getD (s .jobs) i 0
+
+abbrev pub firstRecord : Schedule → ℕ → Central
+firstRecord s i = recordAt (start s) (packageAddress s i)
+
+-- the sixteen words of a job's package in a memory
+abbrev pub packageIn : Schedule → ℕ → List ℕ → List ℕ
+packageIn s i m = part m (packageAddress s i) 16
+
+-- "A job's field is the words from RA up to, but without, RA + FL, by its package at the start."
+abbrev pub fieldIn : Schedule → ℕ → List ℕ → List ℕ
+fieldIn s i m = part m (firstRecord s i .ra) (firstRecord s i .fl)
+
+-- of a list with an entry for each stint, those of job i's stints
+unfoldable pub ofJob : ℕ → List ℕ → List ℕ → List ℕ
+ofJob i [] xs = []
+ofJob i (j ∷ js) [] = []
+ofJob i (j ∷ js) (x ∷ xs) = cond (eqb j i) (x ∷ ofJob i js xs) (ofJob i js xs)
+
+unfoldable pub sum : List ℕ → ℕ
+sum [] = 0
+sum (x ∷ xs) = x + sum xs
+
+-- "The turns asked of a job are the sum over its stints in the list, the turns it made the sum of the counts of turns made in them;
+-- both are 0 without a stint."
+abbrev pub turnsAsked : Schedule → ℕ → ℕ
+turnsAsked s i = sum (ofJob i (s .stintJobs) (s .stintTurns))
+
+abbrev pub turnsMade : Schedule → ℕ → ℕ
+turnsMade s i = sum (ofJob i (s .stintJobs) (played s .turns))
+
+-- the last entry, or 0 without one
+unfoldable pub lastOf : List ℕ → ℕ
+lastOf [] = 0
+lastOf (x ∷ []) = x
+lastOf (x ∷ y ∷ xs) = lastOf (y ∷ xs)
+
+-- "Its stop is that of its last stint in the list; it has none where that stint gave none or it has no stint." 0 is none.
+abbrev pub stopOf : Schedule → ℕ → ℕ
+stopOf s i = lastOf (ofJob i (s .stintJobs) (played s .stops))
+
+-- every entry but the last is 0
+unfoldable pub NoneButLast : List ℕ → Type 0
+NoneButLast [] = Unit {0}
+NoneButLast (x ∷ []) = Unit {0}
+NoneButLast (x ∷ y ∷ xs) = (x ≡ 0) × NoneButLast (y ∷ xs)
+
+-- "stopping in no stint but its last"
+abbrev pub StopsInLastOnly : Schedule → ℕ → Type 0
+StopsInLastOnly s i = NoneButLast (ofJob i (s .stintJobs) (played s .stops))
+
+-- "a program alike in package, field and turns asked": "Two packages are alike where they hold the same sixteen words in the same order,
+-- two fields where they hold the same words in the same order."
+pub record Alike (s : Schedule) (i : ℕ) (s′ : Schedule) (i′ : ℕ) : Type 0 where
+  pub packages : packageIn s i (start s) ≡ packageIn s′ i′ (start s′)
+  pub fields : fieldIn s i (start s) ≡ fieldIn s′ i′ (start s′)
+  pub asked : turnsAsked s i ≡ turnsAsked s′ i′
+
+-- "ends alike": in its package, its field, the turns it made and its stop or none
+pub record EndsAlike (s : Schedule) (i : ℕ) (s′ : Schedule) (i′ : ℕ) : Type 0 where
+  pub packages : packageIn s i (end s) ≡ packageIn s′ i′ (end s′)
+  pub fields : fieldIn s i (end s) ≡ fieldIn s′ i′ (end s′)
+  pub made : turnsMade s i ≡ turnsMade s′ i′
+  pub stop : stopOf s i ≡ stopOf s′ i′
+
+-- "in any two accepted schedules a program alike in package, field and turns asked (and stopping in no stint but its last) ends alike,
+-- whatever its neighbours are". "The two schedules may differ in all that is not named as alike".
+abbrev pub Isolation : Type 0
+Isolation =
+    (s s′ : Schedule) → Accepted s → Accepted s′
+    → (i i′ : ℕ) → i < length (s .jobs) → i′ < length (s′ .jobs)
+    → StopsInLastOnly s i → StopsInLastOnly s′ i′
+    → Alike s i s′ i′ → EndsAlike s i s′ i′
+
+-- the word at an address is neither in job i's package nor in its field
+pub record OutsideJob (s : Schedule) (x i : ℕ) : Type 0 where
+  pub package-free : (x < packageAddress s i) ⊎ (packageAddress s i + 16 ≤ x)
+  pub field-free : (x < firstRecord s i .ra) ⊎ (firstRecord s i .ra + firstRecord s i .fl ≤ x)
+
+-- "and no word outside the listed packages and fields changes"; memory keeps its length
+abbrev pub RestKept : Type 0
+RestKept =
+    (s : Schedule) → Accepted s
+    → (length (end s) ≡ length (start s))
+    × ((x : ℕ) → ((i : ℕ) → i < length (s .jobs) → OutsideJob s x i) → getD (end s) x 0 ≡ getD (start s) x 0)
+
+-- "A schedule hands the central record back as it was, stop included."
+abbrev pub RecordKept : Type 0
+RecordKept = (s : Schedule) → Accepted s → played s .central ≡ s .central

@@ -1,0 +1,1 @@
+-- Consequences of the definitions. Assumes nothing.

@@ -1,0 +1,7 @@
+-- Schedules: what the contract of the entry point cites, and demand 3. A reader has to believe these; `Laws` is proved from them.
+pub mod Schedule
+-- which schedules are refused
+pub mod Refusals
+-- demand 3
+pub mod Isolation
+pub mod Laws
