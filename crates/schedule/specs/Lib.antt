@@ -4,4 +4,6 @@ pub mod Schedule
 pub mod Refusals
 -- demand 3
 pub mod Isolation
+-- a job by itself
+pub mod Job
 pub mod Laws

@@ -1,11 +1,11 @@
 -- Parts of a list that was written in one part. Assumes nothing.
 use mathlib.Core.List.{List, _++_}
 use mathlib.Core.Logic.{⊎-elim}
-use mathlib.Core.Path.{_≡_, ap, _∙_}
+use mathlib.Core.Path.{_≡_, sym, ap, _∙_}
 use Prim.Native.Nat.{ℕ, _+_, _-_, _≤_, _<_}
 use native.Mathlib.Omega.{arith}
 use lib.ListN.{length, getD, take, drop, length-take, length-drop, length-append, take-append-drop, List·getD-append, List·getD-eq-default}
-use lib.Seq.{length-take-le, take-at, drop-at, getD-take, getD-drop, getD-append-add}
+use lib.Seq.{length-take-le, take-at, drop-at, getD-take, getD-drop, getD-append-add, ext-getD}
 use Rattle.word.specs.Laws.Choice.{le-or-lt}
 use Rattle.exchange.specs.Memory.{part, splice}
 
@@ -27,6 +27,15 @@ module _ (m : List ℕ) (a n : ℕ) where
   -- a part replaced by itself
   pub splice-part : splice m a n (part m a n) ≡ m
   splice-part = rw (take-append-drop n (drop a m)) (take-append-drop a m)
+
+-- two parts are equal by their words
+pub part-same : (m m′ : List ℕ) (a n : ℕ) → length m ≡ length m′ → ((i : ℕ) → a ≤ i → i < a + n → getD m i 0 ≡ getD m′ i 0)
+    → part m a n ≡ part m′ a n
+part-same m m′ a n e h =
+    ext-getD 0 (part m a n) (part m′ a n) (simp (length-take, length-drop) (rw e))
+    (λ i c.
+    let l : i < n = let c′ = simp (length-take, length-drop) at c in omega arith in
+    word-in-part m a n i l ∙ h (a + i) (omega arith) (omega arith) ∙ sym (word-in-part m′ a n i l))
 
 module _ (m : List ℕ) (a n : ℕ) (v : List ℕ) (inside : a + n ≤ length m) (long : length v ≡ n) where
   before : length (take a m) ≡ a

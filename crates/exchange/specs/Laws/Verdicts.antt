@@ -18,7 +18,7 @@ use Rattle.exchange.specs.Jump.{recordAt, packageVerdict}
 use Rattle.exchange.specs.Laws.Indexed.{both}
 
 -- accepted where a test passes
-by-test : (t : Bool) (v : Verdict) (r : Refusal) → cond t v (Call.Refused r) ≡ Call.Accepted → (t ≡ true) × (v ≡ Call.Accepted)
+pub by-test : (t : Bool) (v : Verdict) (r : Refusal) → cond t v (Call.Refused r) ≡ Call.Accepted → (t ≡ true) × (v ≡ Call.Accepted)
 by-test true v r e = (refl, e)
 by-test false v r e = let z : _≡_ {A = ℕ} 0 1 = cc in absurd (omega arith)
 

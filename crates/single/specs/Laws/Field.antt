@@ -19,7 +19,7 @@ use Rattle.exchange.specs.Laws.Memory.{length-part, part-lt, part-splice, lengt
 use Rattle.exchange.specs.Laws.Record.{Fits, fits, of-fits, word-width, of-word-width}
 use Rattle.exchange.specs.Laws.Verdicts.{HostAccepted}
 use Rattle.exchange.specs.declared.record.Central.{Central}
-use Rattle.single.specs.Field.{boundsOf, fieldRun, ranOn}
+use Rattle.single.specs.Field.{boundsOf, recordAfter, fieldRun, ranOn}
 
 -- registers as the central processor asks for them, from a record and back
 module _ (c : Central) (w : FitsPackage c) (count : length (c .registers) ≡ 24) where
@@ -38,6 +38,18 @@ module _ (c : Central) (w : FitsPackage c) (count : length (c .registers) ≡ 24
 pub register-width : (r : List ℕ) → Central.Wide r → (i : ℕ) → getD r i 0 < 2 ^ registerWidth i
 register-width r w i =
     ⊎-elim (λ h. rw (le-ltb i 16 h) (w .long i)) (λ h. rw (lt-ltb i 16 h) (w .short i h)) (le-or-lt 16 i)
+
+-- the record after turns goes into a package, as the record before them did
+pub after-fits-package : (c : Central) → FitsPackage c → (n : ℕ) (o : Run) → RunLeft n o → FitsPackage (recordAfter c o)
+after-fits-package c w n o left =
+    record {
+      p-width = left .p;
+      ra-width = w .ra-width;
+      fl-width = w .fl-width;
+      em-fits = w .em-fits;
+      register-width = λ i h. register-width _ (left .kept .wide) i;
+      b0-zero = left .kept .wide .b0;
+    }
 
 -- a memory and a record as the host may lend them
 module _ (m : List ℕ) (c : Central) (l : HostAccepted m c) where
@@ -75,16 +87,7 @@ module _ (m : List ℕ) (c : Central) (l : HostAccepted m c) (count : length (c 
 
   pub ran-fits-package : (n : ℕ) → FitsPackage (ranOn m c n .end .central)
   unfolding ranOn
-  ran-fits-package n =
-      let w = ran-left n .kept .wide in
-      record {
-        p-width = ran-left n .p;
-        ra-width = fitting m c l .fits-package .ra-width;
-        fl-width = fitting m c l .fits-package .fl-width;
-        em-fits = fitting m c l .fits-package .em-fits;
-        register-width = λ i h. register-width _ w i;
-        b0-zero = w .b0;
-      }
+  ran-fits-package n = after-fits-package c (fitting m c l .fits-package) (c .fl) (fieldRun m c n) (ran-left n)
 
   -- widths, lengths, RA, FL, EM and B0 are kept: what is handed back may be lent again
   pub ran-accepted : (n : ℕ) → HostAccepted (ranOn m c n .memory) (ranOn m c n .end .central)

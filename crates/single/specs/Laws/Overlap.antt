@@ -1,10 +1,11 @@
 -- What the test of two parts says. Assumes nothing.
-use mathlib.Core.Bool.{true, false, false≢true}
-use mathlib.Core.Logic.{⊎-elim}
-use mathlib.Core.Path.{_≡_, sym, _∙_}
+use mathlib.Core.Bool.{Bool, true, false, false≢true, _&&_, and-comm}
+use mathlib.Core.Logic.{_⊎_, inl, inr, ⊎-elim}
+use mathlib.Core.Path.{_≡_, refl, sym, _∙_}
 use Prim.Native.Nat.{ℕ, _+_, _≤_, _<_}
 use native.Mathlib.Omega.{arith}
 use borrow.Author.Tests.{lt-ltb}
+use lib.Dec.{ltb}
 use Rattle.word.specs.Laws.Choice.{le-or-lt}
 use Rattle.single.specs.Overlap.{sharesWord}
 
@@ -18,3 +19,18 @@ shared a n b k i ha hn hb hk =
 pub past : (a n b k i : ℕ) → sharesWord a n b k ≡ false → a ≤ i → i < a + n → b ≤ i → b + k ≤ i
 past a n b k i h ha hn hb =
     ⊎-elim (λ l. l) (λ l. absurd (false≢true (sym h ∙ shared a n b k i ha hn hb l))) (le-or-lt (b + k) i)
+
+-- a word of the first part is outside the second
+pub apart : (a n b k i : ℕ) → sharesWord a n b k ≡ false → a ≤ i → i < a + n → (i < b) ⊎ (b + k ≤ i)
+apart a n b k i h ha hn = ⊎-elim (λ l. inr (past a n b k i h ha hn l)) (λ l. inl l) (le-or-lt b i)
+
+-- the order of the two parts is free
+pub shares-comm : (a n b k : ℕ) → sharesWord a n b k ≡ sharesWord b k a n
+unfolding sharesWord
+shares-comm a n b k = swapped (ltb 0 n) (ltb 0 k) (ltb a (b + k)) (ltb b (a + n))
+  where
+    swapped : (p q r s : Bool) → p && q && r && s ≡ q && p && s && r
+    swapped true true r s = and-comm r s
+    swapped true false r s = refl
+    swapped false true r s = refl
+    swapped false false r s = refl

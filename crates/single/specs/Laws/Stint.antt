@@ -1,26 +1,27 @@
 -- A stint, by the results of its parts; the record comes back as it was, and no word outside package and field changes. Assumes nothing.
+use mathlib.Core.Bool.{true}
 use mathlib.Core.List.{List}
 use mathlib.Core.Logic.{_⊎_, ⊎-elim}
 use mathlib.Core.Path.{_≡_, sym, ap, subst, _∙_}
 use Prim.Native.Nat.{ℕ, _+_, _≤_, _<_}
 use native.Mathlib.Omega.{arith}
 use lib.ListN.{length, getD}
-use lib.Seq.{ext-getD}
-use Rattle.word.specs.Laws.Choice.{le-or-lt}
+use Rattle.central.specs.State.{state}
+use Rattle.central.specs.Turn.{Run, turnsOf}
 use Rattle.exchange.specs.Memory.{part}
 use Rattle.exchange.specs.Package.{coded, decoded}
-use Rattle.exchange.specs.Record.{FitsPackage}
+use Rattle.exchange.specs.Record.{FitsPackage, running, wordsFit}
 use Rattle.exchange.specs.Jump.{recordAt, Exchanged, exchanged}
-use Rattle.exchange.specs.Laws.Memory.{length-part, word-in-part}
+use Rattle.exchange.specs.Laws.Memory.{part-same, part-splice}
 use Rattle.exchange.specs.Laws.Record.{fits}
 use Rattle.exchange.specs.Laws.Package.{count-decoded, decoded-coded}
 use Rattle.exchange.specs.Laws.Verdicts.{HostAccepted, host-accepted, of-host-accepted, of-package-accepted}
-use Rattle.exchange.specs.Laws.Jump.{exchange-length, exchange-package, exchange-below, exchange-above, exchange-host-accepted}
+use Rattle.exchange.specs.Laws.Jump.{exchange-length, exchange-package, exchange-below, exchange-above, exchange-words, exchange-host-accepted}
 use Rattle.exchange.specs.declared.record.Central.{Central}
-use Rattle.single.specs.Field.{RanMemory, ranOn}
+use Rattle.single.specs.Field.{boundsOf, RanMemory, recordAfter, fieldRun, ranOn}
 use Rattle.single.specs.Stint.{stintTo, withStop, stintOf, Accepted}
-use Rattle.single.specs.Laws.Field.{ran-length, ran-fits-package, ran-below, ran-above}
-use Rattle.single.specs.Laws.Overlap.{past}
+use Rattle.single.specs.Laws.Field.{field-inside, ran-left, ran-length, ran-fits-package, ran-accepted, ran-below, ran-above}
+use Rattle.single.specs.Laws.Overlap.{apart, shares-comm}
 
 -- exchanged in, run and exchanged out
 pub stint-is : (m : List ℕ) (c : Central) (at n : ℕ) (i : Exchanged) (o : RanMemory) (x : Exchanged)
@@ -71,22 +72,11 @@ module _ (m : List ℕ) (c : Central) (at : ℕ) (a : Accepted m c at) where
 
   -- the turns leave the package
   package-word : (n i : ℕ) → at ≤ i → i < at + 16 → getD (ran n) i 0 ≡ getD (exchanged m c at .memory) i 0
-  unfolding exchanged
-  package-word n i l h =
-      ⊎-elim (λ g. ran-above _ _ in-accepted in-count n i (past at 16 _ _ i (a .apart) l h g))
-      (λ g. ran-below _ _ in-accepted in-count n i g) (le-or-lt (exchanged m c at .central .ra) i)
+  package-word n i l h = outside-field n i (apart at 16 _ _ i (a .apart) l h)
 
   package-kept : (n : ℕ) → part (ran n) at 16 ≡ coded c
   package-kept n =
-      let size : (x : List ℕ) → length x ≡ length m → length (part x at 16) ≡ 16
-      = λ x e. length-part x at 16 (omega (arith, a .owner .inside, e)) in
-      ext-getD 0 (part (ran n) at 16) (part (exchanged m c at .memory) at 16)
-      (size (ran n) (out-length n) ∙ sym (size (exchanged m c at .memory) in-length))
-      (λ i h.
-      let l : i < 16 = omega (arith, size (ran n) (out-length n)) in
-      word-in-part (ran n) at 16 i l
-      ∙ package-word n (at + i) (omega arith) (omega arith)
-      ∙ sym (word-in-part (exchanged m c at .memory) at 16 i l))
+      part-same (ran n) (exchanged m c at .memory) at 16 (ran-length _ _ in-accepted in-count n) (package-word n)
       ∙ exchange-package m c at (a .owner .inside)
 
   -- "hands the central record back as it was, stop included"
@@ -103,3 +93,67 @@ module _ (m : List ℕ) (c : Central) (at : ℕ) (a : Accepted m c at) where
       ⊎-elim (exchange-below _ _ at (out-inside n) i) (exchange-above _ _ at (out-inside n) i) p
       ∙ outside-field n i f
       ∙ ⊎-elim (exchange-below m c at (a .owner .inside) i) (exchange-above m c at (a .owner .inside) i) p
+
+  pub stint-length : (n : ℕ) → length (stintOf m c at n .memory) ≡ length m
+  unfolding stintOf
+  stint-length n = exchange-length _ _ at (out-inside n) ∙ out-length n
+
+  pub stint-words : (n : ℕ) → wordsFit (stintOf m c at n .memory) ≡ true
+  unfolding stintOf
+  stint-words n =
+      exchange-words _ _ at (out-inside n) (ran-accepted _ _ in-accepted in-count n .words) (ran-fits-package _ _ in-accepted in-count n)
+
+  -- the field, which shares no word with the package, is not touched by an exchange
+  field-left : (x : List ℕ) (d : Central) → at + 16 ≤ length x
+      → part (exchanged x d at .memory) (recordAt m at .ra) (recordAt m at .fl) ≡ part x (recordAt m at .ra) (recordAt m at .fl)
+  field-left x d inside =
+      part-same (exchanged x d at .memory) x (recordAt m at .ra) (recordAt m at .fl) (exchange-length x d at inside)
+      (λ i l h. ⊎-elim (exchange-below x d at inside i) (exchange-above x d at inside i)
+      (apart (recordAt m at .ra) (recordAt m at .fl) at 16 i (shares-comm (recordAt m at .ra) (recordAt m at .fl) at 16 ∙ a .apart) l h))
+
+  -- the turns of the package's record on its field
+  abbrev own : ℕ → Run
+  own n = fieldRun m (recordAt m at) n
+
+  turns-own : (n : ℕ) → fieldRun (exchanged m c at .memory) (exchanged m c at .central) n ≡ own n
+  unfolding exchanged
+  turns-own n =
+      ap (λ (f : List ℕ). turnsOf n (boundsOf (recordAt m at)) (recordAt m at .p) (state (recordAt m at .registers) f)) (field-left m c (a .owner .inside))
+
+  turns-record : (n : ℕ) → ranOn (exchanged m c at .memory) (exchanged m c at .central) n .end .central ≡ recordAfter (recordAt m at) (own n)
+  unfolding ranOn exchanged
+  turns-record n = ap (recordAfter (recordAt m at)) (turns-own n)
+
+  -- what a stint leaves of its own package and field, its turns and its stop go by these turns alone
+  pub stint-package : (n : ℕ) → part (stintOf m c at n .memory) at 16 ≡ coded (recordAfter (recordAt m at) (own n))
+  unfolding stintOf
+  stint-package n = exchange-package _ _ at (out-inside n) ∙ ap coded (turns-record n)
+
+  field-written : (n : ℕ) → part (ran n) (recordAt m at .ra) (recordAt m at .fl) ≡ own n .state .field
+  unfolding ranOn exchanged
+  field-written n =
+      part-splice (exchanged m c at .memory) (recordAt m at .ra) (recordAt m at .fl) _
+      (field-inside _ _ in-accepted) (ran-left _ _ in-accepted in-count n .kept .size)
+      ∙ ap (λ (o : Run). o .state .field) (turns-own n)
+
+  pub stint-field : (n : ℕ) → part (stintOf m c at n .memory) (recordAt m at .ra) (recordAt m at .fl) ≡ own n .state .field
+  unfolding stintOf
+  stint-field n = field-left (ran n) _ (out-inside n) ∙ field-written n
+
+  pub stint-turns : (n : ℕ) → stintOf m c at n .end .turns ≡ own n .end .turns
+  unfolding stintOf ranOn
+  stint-turns n = ap (λ (o : Run). o .end .turns) (turns-own n)
+
+  pub stint-stop : (n : ℕ) → stintOf m c at n .end .stop ≡ own n .end .stop
+  unfolding stintOf ranOn
+  stint-stop n = ap (λ (o : Run). o .end .stop) (turns-own n)
+
+  -- the record that the package then holds
+  pub after-fits : (n : ℕ) → FitsPackage (recordAfter (recordAt m at) (own n))
+  after-fits n = subst FitsPackage (turns-record n) (ran-fits-package _ _ in-accepted in-count n)
+
+  pub after-record : (n : ℕ) → recordAt (stintOf m c at n .memory) at ≡ running (recordAfter (recordAt m at) (own n))
+  after-record n =
+      ap decoded (stint-package n)
+      ∙ decoded-coded (recordAfter (recordAt m at) (own n)) (after-fits n)
+      (ap (λ (o : Run). length (o .state .registers)) (sym (turns-own n)) ∙ ran-left _ _ in-accepted in-count n .kept .wide .count)

@@ -1,0 +1,99 @@
+-- Demand 3, proved of whole lists of stints. Assumes nothing.
+use mathlib.Core.List.{List}
+use mathlib.Core.Path.{_≡_, sym, ap, ap₂, subst, _∙_}
+use Prim.Native.Nat.{ℕ, _≤_, _<_}
+use native.Mathlib.Omega.{arith}
+use lib.ListN.{length, getD}
+use Rattle.exchange.specs.Jump.{recordAt}
+use Rattle.exchange.specs.Laws.Jump.{record-at-fits, record-at-fits-package}
+use Rattle.exchange.specs.Laws.Memory.{length-part}
+use Rattle.exchange.specs.Laws.Package.{count-decoded, coded-decoded}
+use Rattle.exchange.specs.Laws.Verdicts.{HostAccepted, of-package-accepted}
+use Rattle.exchange.specs.Memory.{part}
+use Rattle.exchange.specs.Package.{coded, decoded}
+use Rattle.single.specs.Laws.Field.{field-kept}
+use Rattle.schedule.specs.Isolation.{Accepted, start, end, packageAddress, packageIn, fieldIn, ofJob, turnsAsked, NoneButLast, StopsInLastOnly, Alike, EndsAlike, Isolation, OutsideJob, RestKept, RecordKept}
+use Rattle.schedule.specs.Job.{Job, jobAt, JobPlayed, seenByJob, ownStints}
+use Rattle.schedule.specs.Laws.Projection.{projection, record-back, length-back, ra-back, fl-back, word-back}
+use Rattle.schedule.specs.Laws.Refusals.{accepted-lists, accepted-ready}
+use Rattle.schedule.specs.Laws.Stint.{Ready}
+use Rattle.schedule.specs.Laws.Sum.{Fit, Total, totalOf, oneStint, stints-sum}
+use Rattle.schedule.specs.Schedule.{Schedule}
+
+module _ (s : Schedule) (a : Accepted s) where
+  abbrev ready : Ready (s .memory) (s .central) (s .jobs)
+  ready = accepted-ready s a
+
+  module _ (i : ℕ) (li : i < length (s .jobs)) where
+    abbrev at : ℕ
+    at = packageAddress s i
+
+    -- the job at the start
+    abbrev before : Job
+    before = jobAt (start s) at
+
+    may-be-lent : HostAccepted (start s) (recordAt (start s) at)
+    may-be-lent =
+        record {
+          nonempty = ready .host .nonempty;
+          at-most = ready .host .at-most;
+          words = ready .host .words;
+          fits = record-at-fits (start s) at (ready .host .words) (of-package-accepted (start s) at (ready .owner i li));
+        }
+
+    job-fit : Fit before
+    job-fit =
+        record {
+          package-fits = record-at-fits-package (start s) at (ready .host .words) (of-package-accepted (start s) at (ready .owner i li));
+          room = omega (arith, ready .owner i li .field, ready .host .at-most);
+          kept = field-kept (start s) (recordAt (start s) at) may-be-lent (count-decoded (part (start s) at 16));
+        }
+
+    job-clean : coded (decoded (before .packageWords)) ≡ before .packageWords
+    job-clean = coded-decoded (part (start s) at 16) (length-part (start s) at 16 (ready .owner i li .inside)) (ready .owner i li .no-stray)
+
+    -- what a job sees of a schedule is the fold of its own stints, whatever stands between them
+    pub own-stints-only : seenByJob s i ≡ ownStints s i
+    own-stints-only =
+        projection (s .jobs) (s .stintJobs) (s .stintTurns) (s .memory) (s .central) ready (accepted-lists s a .listed) i li
+
+    -- and, where none but its last stops, one stint of all the turns asked
+    pub as-one-stint : StopsInLastOnly s i → totalOf (seenByJob s i) ≡ oneStint (turnsAsked s i) before
+    as-one-stint last =
+        ap totalOf own-stints-only
+        ∙ stints-sum (ofJob i (s .stintJobs) (s .stintTurns)) before job-fit job-clean
+        (subst NoneButLast (ap (λ (l : JobPlayed). l .stops) own-stints-only) last)
+
+    -- the field by the package at the start is the field by the package at the end
+    field-end : fieldIn s i (end s) ≡ jobAt (end s) at .fieldWords
+    field-end =
+        let l = accepted-lists s a .listed in
+        rw (
+          ra-back (s .jobs) (s .stintJobs) (s .stintTurns) (s .memory) (s .central) ready l i li,
+          fl-back (s .jobs) (s .stintJobs) (s .stintTurns) (s .memory) (s .central) ready l i li,
+        )
+
+pub isolation : Isolation
+isolation s s′ a a′ i i′ li li′ last last′ alike =
+    let same : jobAt (start s) (packageAddress s i) ≡ jobAt (start s′) (packageAddress s′ i′)
+    = λ x. record { packageWords = alike .packages x; fieldWords = alike .fields x } in
+    let totals : totalOf (seenByJob s i) ≡ totalOf (seenByJob s′ i′)
+    = as-one-stint s a i li last ∙ ap₂ oneStint (alike .asked) same ∙ sym (as-one-stint s′ a′ i′ li′ last′) in
+    record {
+      packages = ap (λ (t : Total). t .job .packageWords) totals;
+      fields = field-end s a i li ∙ ap (λ (t : Total). t .job .fieldWords) totals ∙ sym (field-end s′ a′ i′ li′);
+      made = ap (λ (t : Total). t .made) totals;
+      stop = ap (λ (t : Total). t .stop) totals;
+    }
+
+pub rest-kept : RestKept
+rest-kept s a =
+    let l = accepted-lists s a .listed in (
+      length-back (s .jobs) (s .stintJobs) (s .stintTurns) (s .memory) (s .central) (accepted-ready s a) l,
+      λ x out. word-back (s .jobs) (s .stintJobs) (s .stintTurns) (s .memory) (s .central) (accepted-ready s a) l x
+          (λ i li. let o : OutsideJob s x i = out i li in (o .package-free, o .field-free)),
+    )
+
+pub record-kept : RecordKept
+record-kept s a =
+    record-back (s .jobs) (s .stintJobs) (s .stintTurns) (s .memory) (s .central) (accepted-ready s a) (accepted-lists s a .listed)

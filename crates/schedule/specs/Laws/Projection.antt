@@ -1,0 +1,128 @@
+-- What a job sees of a schedule is the fold of its own stints, whatever stands between them; the record and all other words stay. Assumes nothing.
+use mathlib.Core.Bool.{Bool, true, false, cond}
+use mathlib.Core.List.{List, [], _∷_}
+use mathlib.Core.Logic.{_⊎_}
+use mathlib.Core.Path.{_≡_, refl, ap, subst, _∙_}
+use Prim.Native.Nat.{ℕ, zero, suc, _+_, _≤_, _<_}
+use native.Mathlib.Omega.{arith}
+use borrow.Author.Tests.{eqb-true, eqb-false}
+use lib.Dec.{eqb, lit<}
+use lib.ListN.{length, getD}
+use Rattle.exchange.specs.Jump.{recordAt}
+use Rattle.exchange.specs.declared.record.Central.{Central}
+use Rattle.single.specs.Laws.Stint.{stint-outside}
+use Rattle.single.specs.Stint.{StintMemory, stintOf}
+use Rattle.schedule.specs.Isolation.{ofJob}
+use Rattle.schedule.specs.Job.{Job, jobAt, jobRun, jobAfter, JobPlayed, runThen, jobStints, partOfJob}
+use Rattle.schedule.specs.Laws.Stint.{Ready, may-run, record-kept, length-kept, other-job, own-job, own-turns, own-stop, ra-kept, fl-kept, still-ready}
+use Rattle.schedule.specs.Schedule.{Played, stintThen, stintsOf}
+
+-- every stint is of a listed job
+abbrev pub Listed : List ℕ → List ℕ → Type 0
+Listed jobs js = (k : ℕ) → k < length js → getD js k 0 < length jobs
+
+first-listed : (jobs : List ℕ) (j : ℕ) (js : List ℕ) → Listed jobs (j ∷ js) → j < length jobs
+first-listed jobs j js l = l 0 (omega arith)
+
+rest-listed : (jobs : List ℕ) (j : ℕ) (js : List ℕ) → Listed jobs (j ∷ js) → Listed jobs js
+rest-listed jobs j js l k h = l (suc k) (omega arith)
+
+-- the first stint is job i's own, or another's: by what the later stints leave of job i
+module _ (m : List ℕ) (c : Central) (jobs : List ℕ) (r : Ready m c jobs) (i j t : ℕ) (li : i < length jobs) (lj : j < length jobs) (js ts : List ℕ) where
+  abbrev now : StintMemory
+  now = stintOf m c (getD jobs j 0) t
+
+  abbrev later : Played
+  later = stintsOf jobs js ts (now .memory) (now .end .central)
+
+  abbrev before : Job
+  before = jobAt m (getD jobs i 0)
+
+  own-now : j ≡ i → jobAt (now .memory) (getD jobs i 0) ≡ jobAfter before (jobRun t before)
+  own-now e =
+      subst (λ (k : ℕ). jobAt (now .memory) (getD jobs k 0) ≡ jobAfter (jobAt m (getD jobs k 0)) (jobRun t (jobAt m (getD jobs k 0)))) e
+      (own-job m c jobs r j lj t)
+
+  turns-now : j ≡ i → now .end .turns ≡ jobRun t before .end .turns
+  turns-now e = own-turns m c jobs r j lj t ∙ ap (λ (k : ℕ). jobRun t (jobAt m (getD jobs k 0)) .end .turns) e
+
+  stop-now : j ≡ i → now .end .stop ≡ jobRun t before .end .stop
+  stop-now e = own-stop m c jobs r j lj t ∙ ap (λ (k : ℕ). jobRun t (jobAt m (getD jobs k 0)) .end .stop) e
+
+  step : partOfJob i jobs js later ≡ jobStints (ofJob i js ts) (jobAt (now .memory) (getD jobs i 0))
+      → (own : Bool) → eqb j i ≡ own
+      → _≡_ {A = JobPlayed}
+      (record {
+        job = jobAt (later .memory) (getD jobs i 0);
+        turns = cond own (now .end .turns ∷ ofJob i js (later .turns)) (ofJob i js (later .turns));
+        stops = cond own (now .end .stop ∷ ofJob i js (later .stops)) (ofJob i js (later .stops));
+      })
+      (jobStints (cond own (t ∷ ofJob i js ts) (ofJob i js ts)) before)
+  unfolding jobStints
+  step rest true e =
+      let q = eqb-true j i e in
+      rw (turns-now q, stop-now q)
+      (ap (runThen (jobRun t before)) (rest ∙ ap (jobStints (ofJob i js ts)) (own-now q)))
+  step rest false e = rest ∙ ap (jobStints (ofJob i js ts)) (other-job m c jobs r j lj t i li (eqb-false j i e))
+
+-- the word at w is neither in the package at an address nor in its field
+abbrev Outside : List ℕ → ℕ → ℕ → Type 0
+Outside m w at = ((w < at) ⊎ (at + 16 ≤ w)) × ((w < recordAt m at .ra) ⊎ (recordAt m at .ra + recordAt m at .fl ≤ w))
+
+module _ (jobs : List ℕ) where
+  pub projection : (js ts m : List ℕ) (c : Central) → Ready m c jobs → Listed jobs js → (i : ℕ) → i < length jobs
+      → partOfJob i jobs js (stintsOf jobs js ts m c) ≡ jobStints (ofJob i js ts) (jobAt m (getD jobs i 0))
+  unfolding stintsOf ofJob jobStints
+  projection [] ts m c r l i li = refl
+  projection (j ∷ js) [] m c r l i li = refl
+  projection (j ∷ js) (t ∷ ts) m c r l i li =
+      let lj = first-listed jobs j js l in
+      step m c jobs r i j t li lj js ts
+      (projection js ts _ _ (still-ready m c jobs r j lj t) (rest-listed jobs j js l) i li)
+      (eqb j i) refl
+
+  -- what every stint keeps, the stints keep
+  pub stints-keep : (P : List ℕ → Central → Type 0)
+      → ((m : List ℕ) (c : Central) → Ready m c jobs → (j : ℕ) → j < length jobs → (t : ℕ) → P m c
+      → P (stintOf m c (getD jobs j 0) t .memory) (stintOf m c (getD jobs j 0) t .end .central))
+      → (js ts m : List ℕ) (c : Central) → Ready m c jobs → Listed jobs js → P m c
+      → P (stintsOf jobs js ts m c .memory) (stintsOf jobs js ts m c .central)
+  unfolding stintsOf
+  stints-keep P one [] ts m c r l h = h
+  stints-keep P one (j ∷ js) [] m c r l h = h
+  stints-keep P one (j ∷ js) (t ∷ ts) m c r l h =
+      let lj = first-listed jobs j js l in
+      stints-keep P one js ts _ _ (still-ready m c jobs r j lj t) (rest-listed jobs j js l) (one m c r j lj t h)
+
+  module _ (js ts m : List ℕ) (c : Central) (r : Ready m c jobs) (l : Listed jobs js) where
+    abbrev end : Played
+    end = stintsOf jobs js ts m c
+
+    pub record-back : end .central ≡ c
+    record-back =
+        stints-keep (λ x d. d ≡ c) (λ x d q j lj t e. record-kept x d jobs q j lj t ∙ e) js ts m c r l refl
+
+    pub length-back : length (end .memory) ≡ length m
+    length-back =
+        stints-keep (λ x d. length x ≡ length m) (λ x d q j lj t e. length-kept x d jobs q j lj t ∙ e) js ts m c r l refl
+
+    -- RA and FL of every job stay
+    pub ra-back : (i : ℕ) → i < length jobs → recordAt (end .memory) (getD jobs i 0) .ra ≡ recordAt m (getD jobs i 0) .ra
+    ra-back i li =
+        stints-keep (λ x d. recordAt x (getD jobs i 0) .ra ≡ recordAt m (getD jobs i 0) .ra)
+        (λ x d q j lj t e. ra-kept x d jobs q j lj t i li ∙ e) js ts m c r l refl
+
+    pub fl-back : (i : ℕ) → i < length jobs → recordAt (end .memory) (getD jobs i 0) .fl ≡ recordAt m (getD jobs i 0) .fl
+    fl-back i li =
+        stints-keep (λ x d. recordAt x (getD jobs i 0) .fl ≡ recordAt m (getD jobs i 0) .fl)
+        (λ x d q j lj t e. fl-kept x d jobs q j lj t i li ∙ e) js ts m c r l refl
+
+    -- a word outside every package and field stays
+    pub word-back : (w : ℕ) → ((i : ℕ) → i < length jobs → Outside m w (getD jobs i 0)) → getD (end .memory) w 0 ≡ getD m w 0
+    word-back w out =
+        stints-keep (λ x d. (getD x w 0 ≡ getD m w 0) × ((i : ℕ) → i < length jobs → Outside x w (getD jobs i 0)))
+        (λ x d q j lj t h. (
+          stint-outside x d (getD jobs j 0) (may-run x d jobs q j lj) t w (h .1 j lj .0) (h .1 j lj .1) ∙ h .0,
+          λ i li. (h .1 i li .0, rw (ra-kept x d jobs q j lj t i li, fl-kept x d jobs q j lj t i li) (h .1 i li .1)),
+        ))
+        js ts m c r l (refl, out) .0

@@ -1,0 +1,102 @@
+-- A job's own stints, where none but the last stops, are one stint of the turns of all. Assumes nothing.
+use mathlib.Core.List.{List, [], _∷_}
+use mathlib.Core.Path.{_≡_, refl, sym, ap, _∙_}
+use Prim.Native.Nat.{ℕ, _+_, _≤_}
+use native.Mathlib.Nat.{add-zero}
+use lib.ListN.{length}
+use Rattle.central.specs.Laws.Run.{RunLeft, run-left, turns-then-turns}
+use Rattle.central.specs.State.{state}
+use Rattle.central.specs.Turn.{turnsBefore, turnsOf}
+use Rattle.central.specs.Widths.{Kept}
+use Rattle.exchange.specs.Laws.Package.{decoded-coded, stop-decoded}
+use Rattle.exchange.specs.Package.{coded, decoded}
+use Rattle.exchange.specs.Record.{FitsPackage, running}
+use Rattle.exchange.specs.declared.record.Central.{Central}
+use Rattle.single.specs.Field.{boundsOf, recordAfter}
+use Rattle.single.specs.Laws.Field.{after-fits-package}
+use Rattle.schedule.specs.Isolation.{sum, lastOf, NoneButLast}
+use Rattle.schedule.specs.Job.{Job, turnsOn, jobRun, jobAfter, JobPlayed, jobStints}
+
+-- a job with its widths
+pub record Fit (w : Job) : Type 0 where
+  pub package-fits : FitsPackage (decoded (w .packageWords))
+  pub room : decoded (w .packageWords) .fl ≤ 131072
+  pub kept : Kept (decoded (w .packageWords) .fl) (state (decoded (w .packageWords) .registers) (w .fieldWords))
+
+module _ (w : Job) (f : Fit w) (n : ℕ) where
+  abbrev first : Central
+  first = decoded (w .packageWords)
+
+  run-leaves : RunLeft (first .fl) (jobRun n w)
+  run-leaves = run-left (first .fl) (boundsOf first) (f .room) n (first .p) _ (f .package-fits .p-width) (f .kept)
+
+  after-fits : FitsPackage (recordAfter first (jobRun n w))
+  after-fits = after-fits-package first (f .package-fits) (first .fl) (jobRun n w) run-leaves
+
+  -- the record that the package holds after the turns
+  next-record : decoded (jobAfter w (jobRun n w) .packageWords) ≡ running (recordAfter first (jobRun n w))
+  next-record = decoded-coded (recordAfter first (jobRun n w)) after-fits (run-leaves .kept .wide .count)
+
+  pub fit-after : Fit (jobAfter w (jobRun n w))
+  fit-after =
+      record {
+        package-fits = rw next-record (record {
+          p-width = after-fits .p-width;
+          ra-width = after-fits .ra-width;
+          fl-width = after-fits .fl-width;
+          em-fits = after-fits .em-fits;
+          register-width = after-fits .register-width;
+          b0-zero = after-fits .b0-zero;
+        });
+        room = rw next-record (f .room);
+        kept = rw next-record (run-leaves .kept);
+      }
+
+  module _ (k : ℕ) (going : jobRun n w .end .stop ≡ 0) where
+    -- n turns without a stop and then k are n + k turns
+    run-on : jobRun (n + k) w ≡ turnsBefore (jobRun n w .end .turns) (jobRun k (jobAfter w (jobRun n w)))
+    run-on =
+        rw next-record
+        (turns-then-turns n k (boundsOf first) (first .p) (state (first .registers) (w .fieldWords)) going)
+
+    after-on : jobAfter w (jobRun (n + k) w) ≡ jobAfter (jobAfter w (jobRun n w)) (jobRun k (jobAfter w (jobRun n w)))
+    after-on = rw (run-on, next-record)
+
+-- the job after its stints, the turns made in all and the stop of the last
+pub record Total : Type 0 where
+  pub job : Job
+  pub made : ℕ
+  pub stop : ℕ
+
+abbrev pub totalOf : JobPlayed → Total
+totalOf l = record { job = l .job; made = sum (l .turns); stop = lastOf (l .stops) }
+
+-- of one stint
+abbrev pub oneStint : ℕ → Job → Total
+oneStint n w = record { job = jobAfter w (jobRun n w); made = jobRun n w .end .turns; stop = jobRun n w .end .stop }
+
+abbrev madeBefore : ℕ → Total → Total
+madeBefore n o = record { job = o .job; made = n + o .made; stop = o .stop }
+
+one-more : (t k : ℕ) (w : Job) → Fit w → jobRun t w .end .stop ≡ 0
+    → madeBefore (jobRun t w .end .turns) (oneStint k (jobAfter w (jobRun t w))) ≡ oneStint (t + k) w
+one-more t k w f going = rw (after-on w f t k going, run-on w f t k going)
+
+some-stints : (t : ℕ) (ts : List ℕ) (w : Job) → Fit w → NoneButLast (jobStints (t ∷ ts) w .stops)
+    → totalOf (jobStints (t ∷ ts) w) ≡ oneStint (sum (t ∷ ts)) w
+unfolding jobStints sum lastOf NoneButLast
+some-stints t [] w f last = rw (add-zero t, add-zero (jobRun t w .end .turns))
+some-stints t (u ∷ ts) w f last =
+    ap (madeBefore (jobRun t w .end .turns)) (some-stints u ts (jobAfter w (jobRun t w)) (fit-after w f t) (last .1))
+    ∙ one-more t (sum (u ∷ ts)) w f (last .0)
+
+-- a stint of no turns leaves a package without stray bits as it was
+no-turns : (w : Job) → coded (decoded (w .packageWords)) ≡ w .packageWords → oneStint 0 w ≡ record { job = w; made = 0; stop = 0 }
+unfolding turnsOf decoded
+no-turns w clean = λ x. record { job = record { packageWords = clean x; fieldWords = w .fieldWords }; made = 0; stop = 0 }
+
+pub stints-sum : (ts : List ℕ) (w : Job) → Fit w → coded (decoded (w .packageWords)) ≡ w .packageWords → NoneButLast (jobStints ts w .stops)
+    → totalOf (jobStints ts w) ≡ oneStint (sum ts) w
+unfolding jobStints sum lastOf
+stints-sum [] w f clean last = sym (no-turns w clean)
+stints-sum (t ∷ ts) w f clean last = some-stints t ts w f last
