@@ -4,3 +4,5 @@ pub mod Projection
 pub mod Sum
 pub mod Refusals
 pub mod Isolation
+pub mod OneJob
+pub mod Example

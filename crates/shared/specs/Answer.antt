@@ -1,0 +1,64 @@
+-- What a schedule's stints hand back, as arrays of 256 entries. Assumes nothing.
+use mathlib.Core.List.{List, [], _++_}
+use mathlib.Core.Path.{_≡_}
+use Prim.Native.Nat.{ℕ, _-_, _≤_}
+use lib.ListN.{length, replicate}
+use Rattle.outcome.specs.declared.refusal.Verdict.the-variants as Call
+use Rattle.outcome.specs.declared.refusal.Verdict.{Verdict}
+use Rattle.exchange.specs.declared.record.Central.{Central}
+use Rattle.schedule.specs.Laws.Projection.{Listed}
+use Rattle.schedule.specs.Laws.Stint.{Ready}
+use Rattle.schedule.specs.Refusals.{mostStints, scheduleVerdict}
+use Rattle.schedule.specs.Schedule.{Schedule, Played, played}
+use Rattle.shared.specs.declared.schedule.ScheduleAnswer.{ScheduleAnswer}
+use Rattle.shared.specs.declared.stints.StintsEnd.{StintsEnd}
+
+-- what is asked for a list of stints: no number refuses them
+pub record MayRun (m : List ℕ) (c : Central) (jobs js ts : List ℕ) : Type 0 where
+  pub ready : Ready m c jobs
+  pub listed : Listed jobs js
+  pub even : length js ≡ length ts
+  pub most : length js ≤ mostStints
+
+pub record StintsMemory : Type 0 where
+  pub memory : List ℕ
+  pub end : StintsEnd
+
+abbrev pub stintsTo : List ℕ → StintsEnd → StintsMemory
+stintsTo m o = record { memory = m; end = o }
+
+-- a list with an entry for each stint, and 0 past the last
+abbrev pub padded : List ℕ → List ℕ
+padded xs = xs ++ replicate (mostStints - length xs) 0
+
+abbrev pub inArrays : Played → StintsMemory
+inArrays o =
+    stintsTo (o .memory) (record { central = o .central; turns = padded (o .turns); stops = padded (o .stops) })
+
+abbrev pub scheduleOf : List ℕ → Central → List ℕ → List ℕ → List ℕ → Schedule
+scheduleOf m c jobs js ts = record { memory = m; central = c; jobs = jobs; stintJobs = js; stintTurns = ts }
+
+-- the memory, and the verdict with the record and the results of the stints
+pub record Answered : Type 0 where
+  pub memory : List ℕ
+  pub answer : ScheduleAnswer
+
+abbrev pub answerTo : List ℕ → ScheduleAnswer → Answered
+answerTo m o = record { memory = m; answer = o }
+
+-- "A call that meets none of these conditions is carried out. After a refusal the state comes back equal, counts are 0."
+abbrev pub answerBy : Verdict → Schedule → Answered
+answerBy Call.Accepted s =
+    answerTo (played s .memory)
+    (record {
+      verdict = Call.Accepted;
+      central = played s .central;
+      turns = padded (played s .turns);
+      stops = padded (played s .stops);
+    })
+answerBy (Call.Refused r) s =
+    answerTo (s .memory)
+    (record { verdict = Call.Refused r; central = s .central; turns = padded []; stops = padded [] })
+
+unfoldable pub scheduleAnswer : Schedule → Answered
+scheduleAnswer s = answerBy (scheduleVerdict s) s

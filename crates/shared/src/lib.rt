@@ -1,0 +1,2 @@
+// SHARED: up to sixteen programs in one memory, run by a schedule of stints.
+pub mod stints;

@@ -1,0 +1,43 @@
+// The stints of a schedule, one after the other.
+ghost use mathlib.Core.Path.{_≡_};
+ghost use Rattle.schedule.specs.Schedule.{stintsOf};
+ghost use Rattle.shared.specs.Answer.{MayRun, stintsTo, inArrays};
+use exchange::record::Central;
+use single::stint::stint;
+
+// The record after the stints, and of each stint the turns made and the stop's number, or 0. Entries past the last stint are 0.
+pub struct StintsEnd {
+    pub central: Central,
+    pub turns: [u64; 256],
+    pub stops: [u64; 256],
+}
+
+// Runs the stints in the order listed, each on what the one before it left.
+pub fn run_stints(m: &mut [u64], c: Central, jobs: &[u64], stint_jobs: &[u64], stint_turns: &[u64]) -> StintsEnd
+    requires { ⌜ MayRun (now m) c (now jobs) (now «stint_jobs») (now «stint_turns») ⌝ }
+    ensures {
+        λ o.
+        ⌜ stintsTo (now (m .exit)) o
+        ≡ inArrays (stintsOf (now (jobs .entry)) (now («stint_jobs» .entry)) (now («stint_turns» .entry)) (now (m .entry)) c) ⌝
+    }
+{
+    let mut central = c;
+    let mut turns: [u64; 256] = [0; 256];
+    let mut stops: [u64; 256] = [0; 256];
+    let mut k: usize = 0;
+    while k < stint_jobs.len() {
+        let job = stint_jobs[k] as usize;
+        let at = jobs[job] as usize;
+        let n = stint_turns[k];
+        let o = stint(&mut *m, central, at, n);
+        central = o.central;
+        turns[k] = o.turns;
+        stops[k] = o.stop;
+        k = k + 1;
+    }
+    StintsEnd {
+        central,
+        turns,
+        stops,
+    }
+}
