@@ -1,10 +1,10 @@
-// The tests of a schedule's lists: numbers 6, 7 and 8.
+// The tests of a schedule's lists: numbers 6, 7 and 8. Of each stint js has the job and ts the turns.
 use outcome::refusal::Refusal;
 use outcome::refusal::Verdict;
 ghost use mathlib.Core.Path.{_≡_};
 ghost use Rattle.schedule.specs.Refusals.{listsFit, jobsListed, turnsFit, listsVerdict};
 
-// Number 6 does not refuse the lists.
+// One to sixteen jobs, at most 256 stints, and a job and turns for each.
 fn lists_fit(jobs: &[u64], js: &[u64], ts: &[u64]) -> bool
     ensures { λ r. ⌜ r ≡ listsFit (now (jobs .entry)) (now (js .entry)) (now (ts .entry)) ⌝ }
 {
@@ -20,7 +20,7 @@ fn lists_fit(jobs: &[u64], js: &[u64], ts: &[u64]) -> bool
     js.len() == ts.len()
 }
 
-// Each stint is of a listed job.
+// Each stint is of a listed job; jobs are numbered from 0.
 fn jobs_listed(jobs: &[u64], js: &[u64]) -> bool
     ensures { λ r. ⌜ r ≡ jobsListed (now (jobs .entry)) (now (js .entry)) ⌝ }
 {
@@ -49,17 +49,19 @@ fn turns_fit(ts: &[u64]) -> bool
     true
 }
 
-// Numbers 6, 7 and 8 on the jobs' package addresses and on the job and the turns of each stint, lowest first.
+// Numbers 6, 7 and 8, lowest first.
 pub fn lists_verdict(jobs: &[u64], js: &[u64], ts: &[u64]) -> Verdict
     ensures { λ r. ⌜ r ≡ listsVerdict (now (jobs .entry)) (now (js .entry)) (now (ts .entry)) ⌝ }
 {
     if !lists_fit(jobs, js, ts) {
         return Verdict::Refused(Refusal::ListLength);
     }
-    if !jobs_listed(jobs, js) {
+    let listed = jobs_listed(jobs, js);
+    let fit = turns_fit(ts);
+    if !listed {
         return Verdict::Refused(Refusal::UnlistedJob);
     }
-    if !turns_fit(ts) {
+    if !fit {
         return Verdict::Refused(Refusal::TooManyTurns);
     }
     Verdict::Accepted

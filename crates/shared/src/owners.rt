@@ -1,4 +1,4 @@
-// The tests of the jobs' packages: numbers 9 to 12, each over all jobs before the next.
+// The tests of the jobs' packages: numbers 9 to 12, each over all jobs before the next. A job is the address of its package.
 use exchange::jump::package_is_inside;
 use exchange::package::has_stray;
 use exchange::package::load;
@@ -13,7 +13,7 @@ ghost use Rattle.exchange.specs.Indexed.{all};
 ghost use Rattle.schedule.specs.Refusals.{everyJob, packageInside, packageClean, fieldInside, jobsApart, allApart, ownersVerdict};
 ghost use Rattle.shared.specs.Owners.{Inside};
 
-// Number 9 refuses no job. An address is any number until it is tested here.
+// Number 9 refuses no job. An address is any number, and nothing is read at it before this test.
 fn packages_inside(m: &[u64], jobs: &[u64]) -> bool
     ensures { λ r. ⌜ r ≡ everyJob (now (jobs .entry)) (packageInside (now (m .entry))) ⌝ }
 {
@@ -67,7 +67,7 @@ fn fields_inside(m: &[u64], jobs: &[u64]) -> bool
     true
 }
 
-// The package of job i and the field of job j have no word in common, nor have, of two jobs, the packages or the fields.
+// The package of job i has no word in common with the field of job j; of two different jobs, neither have the packages nor the fields.
 fn jobs_apart(m: &[u64], jobs: &[u64], i: usize, j: usize) -> bool
     requires { ⌜ Inside (now m) (now jobs) ⌝ }
     requires { ⌜ (i < length (now jobs)) × (j < length (now jobs)) ⌝ }
@@ -75,9 +75,9 @@ fn jobs_apart(m: &[u64], jobs: &[u64], i: usize, j: usize) -> bool
 {
     let a = jobs[i];
     let b = jobs[j];
-    let x = load(m, a as usize);
-    let y = load(m, b as usize);
-    if shares_word(a, 16, y.ra, y.fl) {
+    let first = load(m, a as usize);
+    let second = load(m, b as usize);
+    if shares_word(a, 16, second.ra, second.fl) {
         return false;
     }
     if i == j {
@@ -86,11 +86,11 @@ fn jobs_apart(m: &[u64], jobs: &[u64], i: usize, j: usize) -> bool
     if shares_word(a, 16, b, 16) {
         return false;
     }
-    !shares_word(x.ra, x.fl, y.ra, y.fl)
+    !shares_word(first.ra, first.fl, second.ra, second.fl)
 }
 
-// Job i against every job.
-fn job_apart(m: &[u64], jobs: &[u64], i: usize) -> bool
+// Job i against every job, itself included.
+fn apart_from_all(m: &[u64], jobs: &[u64], i: usize) -> bool
     requires { ⌜ Inside (now m) (now jobs) ⌝ }
     requires { ⌜ i < length (now jobs) ⌝ }
     ensures { λ r. ⌜ r ≡ all (length (now (jobs .entry))) (jobsApart (now (m .entry)) (now (jobs .entry)) i) ⌝ }
@@ -105,14 +105,14 @@ fn job_apart(m: &[u64], jobs: &[u64], i: usize) -> bool
     true
 }
 
-// Number 12 refuses no two jobs.
+// Number 12 does not refuse the jobs.
 fn all_apart(m: &[u64], jobs: &[u64]) -> bool
     requires { ⌜ Inside (now m) (now jobs) ⌝ }
     ensures { λ r. ⌜ r ≡ allApart (now (m .entry)) (now (jobs .entry)) ⌝ }
 {
     let mut i: usize = 0;
     while i < jobs.len() {
-        if !job_apart(m, jobs, i) {
+        if !apart_from_all(m, jobs, i) {
             return false;
         }
         i = i + 1;
@@ -120,7 +120,7 @@ fn all_apart(m: &[u64], jobs: &[u64]) -> bool
     true
 }
 
-// Numbers 9 to 12 on the packages at these addresses, lowest first.
+// Numbers 9 to 12, lowest first.
 pub fn owners_verdict(m: &[u64], jobs: &[u64]) -> Verdict
     requires { ⌜ length (now m) ≤ 131072 ⌝ }
     ensures { λ r. ⌜ r ≡ ownersVerdict (now (m .entry)) (now (jobs .entry)) ⌝ }

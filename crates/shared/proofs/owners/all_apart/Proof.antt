@@ -17,12 +17,12 @@ abbrev μ-loop : tie.MeasureT-loop
 loop-holds : tie.Need-loop-holds Inv-loop μ-loop
 loop-holds c = none-yet _ _
 
-job-apart-requires : tie.Need-job-apart-requires Inv-loop μ-loop
-job-apart-requires c κs = (c .before .before .before .before .pre, c .loop-test .taken)
+apart-from-all-requires : tie.Need-apart-from-all-requires Inv-loop μ-loop
+apart-from-all-requires c κs = (c .before .before .before .before .pre, c .loop-test .taken)
 
 returns : tie.Need-returns Inv-loop μ-loop
 unfolding allApart
-returns c = one-fails _ _ _ (c .before .before .loop-test .taken) (fails (c .before .job-apart .ensures) (c .if1 .taken))
+returns c = one-fails _ _ _ (c .before .before .loop-test .taken) (fails (c .before .apart-from-all .ensures) (c .if1 .taken))
 
 add-i : tie.Need-add-i Inv-loop μ-loop
 add-i c = omega arith
@@ -31,7 +31,9 @@ loop-less : tie.Need-loop-less Inv-loop μ-loop
 loop-less c = omega arith
 
 loop-again : tie.Need-loop-again Inv-loop μ-loop
-loop-again c = one-more _ _ _ (c .before .before .before .loop .inv) (c .before .before .loop-test .taken) (holds (c .before .job-apart .ensures) (c .if1 .left))
+loop-again c =
+    let body = c .before .before in
+    one-more _ _ _ (body .before .loop .inv) (body .loop-test .taken) (holds (c .before .apart-from-all .ensures) (c .if1 .left))
 
 returns-2 : tie.Need-returns-2 Inv-loop μ-loop
 unfolding allApart
@@ -44,7 +46,7 @@ all-apart-spec =
     Inv-loop
     μ-loop
     loop-holds
-    job-apart-requires
+    apart-from-all-requires
     returns
     add-i
     loop-less

@@ -11,7 +11,10 @@ load-requires : tie.Need-load-requires
 load-requires c κs = search needs
 
 add-result : tie.Need-add-result
-add-result c = let width = rw (← c .before .load .ensures) at (field-width (part (c .before .before .before .args .m .now) (c .before .before .before .args .at) 16)) in omega arith
+add-result c =
+    let args = c .before .before .before .args in
+    let width = rw (← c .before .load .ensures) at (field-width (part (args .m .now) (args .at) 16)) in
+    omega arith
 
 returns : tie.Need-returns
 unfolding fieldInside

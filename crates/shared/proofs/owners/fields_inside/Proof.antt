@@ -25,7 +25,9 @@ shared-slice-read-field-inside : tie.Need-shared-slice-read-field-inside Inv-loo
 shared-slice-read-field-inside c = search needs
 
 field-inside-requires : tie.Need-field-inside-requires Inv-loop μ-loop
-field-inside-requires c κs = package-inside (c .before .before .before .before .before .args .m .now) (c .before .before .before .before .before .args .jobs .now) (c .before .before .loop .i) (c .before .loop-test .taken) (c .before .before .before .before .before .pre)
+field-inside-requires c κs =
+    let start = c .before .before .before .before .before in
+    package-inside (start .args .m .now) (start .args .jobs .now) _ (c .before .loop-test .taken) (start .pre)
 
 returns : tie.Need-returns Inv-loop μ-loop
 returns c = one-fails _ _ _ (c .before .before .before .loop-test .taken) (fails (c .before .field-inside .ensures) (c .if1 .taken))
@@ -37,7 +39,9 @@ loop-less : tie.Need-loop-less Inv-loop μ-loop
 loop-less c = omega arith
 
 loop-again : tie.Need-loop-again Inv-loop μ-loop
-loop-again c = one-more _ _ _ (c .before .before .before .before .loop .inv) (c .before .before .before .loop-test .taken) (holds (c .before .field-inside .ensures) (c .if1 .left))
+loop-again c =
+    let body = c .before .before .before in
+    one-more _ _ _ (body .before .loop .inv) (body .loop-test .taken) (holds (c .before .field-inside .ensures) (c .if1 .left))
 
 returns-2 : tie.Need-returns-2 Inv-loop μ-loop
 returns-2 c = all-passed _ _ _ (c .before .loop .inv) (c .loop-test .left)

@@ -19,35 +19,73 @@ shared-slice-read-b : tie.Need-shared-slice-read-b
 shared-slice-read-b c = search needs
 
 load-requires : tie.Need-load-requires
-load-requires c κs = package-inside (c .before .before .before .before .args .m .now) (c .before .before .before .before .args .jobs .now) (c .before .before .before .before .args .i) (c .before .before .before .before .pre .1 .0) (c .before .before .before .before .pre .0 .packages)
+load-requires c κs =
+    let start = c .before .before .before .before in
+    package-inside (start .args .m .now) (start .args .jobs .now) _ (start .pre .1 .0) (start .pre .0 .packages)
 
 load-requires-2 : tie.Need-load-requires-2
-load-requires-2 c κs = package-inside (c .before .before .before .before .before .args .m .now) (c .before .before .before .before .before .args .jobs .now) (c .before .before .before .before .before .args .j) (c .before .before .before .before .before .pre .1 .1) (c .before .before .before .before .before .pre .0 .packages)
+load-requires-2 c κs =
+    let start = c .before .before .before .before .before in
+    package-inside (start .args .m .now) (start .args .jobs .now) _ (start .pre .1 .1) (start .pre .0 .packages)
 
 shares-word-requires : tie.Need-shares-word-requires
-shares-word-requires c κs = rw (c .load2 .ensures) (package-end (c .before .before .before .before .before .before .pre .0) _ (c .before .before .before .before .before .before .pre .1 .0), field-end (c .before .before .before .before .before .before .pre .0) _ (c .before .before .before .before .before .before .pre .1 .1))
+shares-word-requires c κs =
+    let pre = c .before .before .before .before .before .before .pre in
+    rw (c .load2 .ensures) (package-end (pre .0) _ (pre .1 .0), field-end (pre .0) _ (pre .1 .1))
 
 returns : tie.Need-returns
 unfolding jobsApart
-returns c = rw (← c .before .before .load2 .ensures, ← c .before .shares-word .ensures, c .if1 .taken)
+returns c =
+    rw (← c .before .before .load2 .ensures, ← c .before .shares-word .ensures, c .if1 .taken)
 
 returns-2 : tie.Need-returns-2
 unfolding jobsApart
-returns-2 c = rw (← c .before .before .before .load2 .ensures, ← c .before .before .shares-word .ensures, c .before .if1 .left, eq-eqb _ _ (c .if2 .taken))
+returns-2 c =
+    let clear = c .before in
+    rw (← clear .before .before .load2 .ensures, ← clear .before .shares-word .ensures, clear .if1 .left, eq-eqb _ _ (c .if2 .taken))
 
 shares-word-requires-2 : tie.Need-shares-word-requires-2
-shares-word-requires-2 c κs = (package-end (c .before .before .before .before .before .before .before .before .before .pre .0) _ (c .before .before .before .before .before .before .before .before .before .pre .1 .0), package-end (c .before .before .before .before .before .before .before .before .before .pre .0) _ (c .before .before .before .before .before .before .before .before .before .pre .1 .1))
+shares-word-requires-2 c κs =
+    let pre = c .before .before .before .before .before .before .before .before .before .pre in
+    (package-end (pre .0) _ (pre .1 .0), package-end (pre .0) _ (pre .1 .1))
 
 returns-3 : tie.Need-returns-3
 unfolding jobsApart
-returns-3 c = rw (← c .before .before .before .before .before .load2 .ensures, ← c .before .before .before .before .shares-word .ensures, c .before .before .before .if1 .left, ne-eqb _ _ (c .before .before .if2 .left), ← c .before .shares-word2 .ensures, c .if3 .taken)
+returns-3 c =
+    let two = c .before .before in
+    let clear = two .before in
+    rw (
+      ← clear .before .before .load2 .ensures,
+      ← clear .before .shares-word .ensures,
+      clear .if1 .left,
+      ne-eqb _ _ (two .if2 .left),
+      ← c .before .shares-word2 .ensures,
+      c .if3 .taken,
+    )
 
 shares-word-requires-3 : tie.Need-shares-word-requires-3
-shares-word-requires-3 c κs = rw (c .before .before .before .before .before .before .load .ensures, c .before .before .before .before .before .load2 .ensures) (field-end (c .before .before .before .before .before .before .before .before .before .before .before .pre .0) _ (c .before .before .before .before .before .before .before .before .before .before .before .pre .1 .0), field-end (c .before .before .before .before .before .before .before .before .before .before .before .pre .0) _ (c .before .before .before .before .before .before .before .before .before .before .before .pre .1 .1))
+shares-word-requires-3 c κs =
+    let loaded = c .before .before .before .before .before in
+    let pre = loaded .before .before .before .before .before .before .pre in
+    rw (loaded .before .load .ensures, loaded .load2 .ensures) (field-end (pre .0) _ (pre .1 .0), field-end (pre .0) _ (pre .1 .1))
 
 returns-4 : tie.Need-returns-4
 unfolding jobsApart
-returns-4 c = rw (← c .before .before .before .before .before .before .load2 .ensures, ← c .before .before .before .before .before .shares-word .ensures, c .before .before .before .before .if1 .left, ne-eqb _ _ (c .before .before .before .if2 .left), ← c .before .before .shares-word2 .ensures, c .before .if3 .left, ← c .before .before .before .before .before .before .before .load .ensures, ← c .shares-word3 .ensures)
+returns-4 c =
+    let packages = c .before in
+    let two = packages .before .before in
+    let clear = two .before in
+    let loaded = clear .before .before in
+    rw (
+      ← loaded .load2 .ensures,
+      ← clear .before .shares-word .ensures,
+      clear .if1 .left,
+      ne-eqb _ _ (two .if2 .left),
+      ← packages .before .shares-word2 .ensures,
+      packages .if3 .left,
+      ← loaded .before .load .ensures,
+      ← c .shares-word3 .ensures,
+    )
 
 pub jobs-apart-spec : {M : Type 1} → statement M
 jobs-apart-spec =

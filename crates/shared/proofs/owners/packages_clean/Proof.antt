@@ -27,7 +27,9 @@ shared-slice-read-has-stray : tie.Need-shared-slice-read-has-stray Inv-loop μ-l
 shared-slice-read-has-stray c = search needs
 
 has-stray-requires : tie.Need-has-stray-requires Inv-loop μ-loop
-has-stray-requires c κs = package-inside (c .before .before .before .before .before .args .m .now) (c .before .before .before .before .before .args .jobs .now) (c .before .before .loop .i) (c .before .loop-test .taken) (c .before .before .before .before .before .pre)
+has-stray-requires c κs =
+    let start = c .before .before .before .before .before in
+    package-inside (start .args .m .now) (start .args .jobs .now) _ (c .before .loop-test .taken) (start .pre)
 
 returns : tie.Need-returns Inv-loop μ-loop
 unfolding packageClean
@@ -41,7 +43,9 @@ loop-less c = omega arith
 
 loop-again : tie.Need-loop-again Inv-loop μ-loop
 unfolding packageClean
-loop-again c = one-more _ _ _ (c .before .before .before .before .loop .inv) (c .before .before .before .loop-test .taken) (ap not (sym (c .before .has-stray .ensures) ∙ c .if1 .left))
+loop-again c =
+    let body = c .before .before .before in
+    one-more _ _ _ (body .before .loop .inv) (body .loop-test .taken) (ap not (sym (c .before .has-stray .ensures) ∙ c .if1 .left))
 
 returns-2 : tie.Need-returns-2 Inv-loop μ-loop
 returns-2 c = all-passed _ _ _ (c .before .loop .inv) (c .loop-test .left)

@@ -38,7 +38,9 @@ loop-less c = omega arith
 
 loop-again : tie.Need-loop-again Inv-loop μ-loop
 unfolding packageInside
-loop-again c = one-more _ _ _ (c .before .before .before .before .loop .inv) (c .before .before .before .loop-test .taken) (holds (c .before .package-is-inside .ensures) (c .if1 .left))
+loop-again c =
+    let body = c .before .before .before in
+    one-more _ _ _ (body .before .loop .inv) (body .loop-test .taken) (holds (c .before .package-is-inside .ensures) (c .if1 .left))
 
 returns-2 : tie.Need-returns-2 Inv-loop μ-loop
 returns-2 c = all-passed _ _ _ (c .before .loop .inv) (c .loop-test .left)

@@ -19,7 +19,9 @@ enum-told-2 : tie.Need-enum-told-2
 enum-told-2 c = search needs
 
 owners-verdict-requires : tie.Need-owners-verdict-requires
-owners-verdict-requires c κs = host-accepted _ _ (sym (c .before .before .before .before .before .host-verdict .ensures) ∙ c .before .before .before .enum-told .given .1) .at-most
+owners-verdict-requires c κs =
+    let host = c .before .before .before in
+    host-accepted _ _ (sym (host .before .before .host-verdict .ensures) ∙ host .enum-told .given .1) .at-most
 
 enum-known-r : tie.Need-enum-known-r
 enum-known-r c = search needs
@@ -29,11 +31,28 @@ enum-known-r-2 c = search needs
 
 returns : tie.Need-returns
 unfolding scheduleVerdict
-returns c = rw (← c .before .before .before .before .before .before .host-verdict .ensures, c .before .before .before .before .enum-told .given .1, ← c .before .before .before .lists-verdict .ensures, c .before .enum-told2 .given .1) (c .owners-verdict .ensures)
+returns c =
+    let lists = c .before .before .before in
+    let host = lists .before in
+    rw (
+      ← host .before .before .host-verdict .ensures,
+      host .enum-told .given .1,
+      ← lists .lists-verdict .ensures,
+      c .before .enum-told2 .given .1,
+    )
+    (c .owners-verdict .ensures)
 
 returns-2 : tie.Need-returns-2
 unfolding scheduleVerdict
-returns-2 c = rw (← c .before .before .before .before .before .before .host-verdict .ensures, c .before .before .before .before .enum-told .given .1, ← c .before .before .before .lists-verdict .ensures, c .before .r .given .1)
+returns-2 c =
+    let lists = c .before .before .before in
+    let host = lists .before in
+    rw (
+      ← host .before .before .host-verdict .ensures,
+      host .enum-told .given .1,
+      ← lists .lists-verdict .ensures,
+      c .before .r .given .1,
+    )
 
 returns-3 : tie.Need-returns-3
 unfolding scheduleVerdict
