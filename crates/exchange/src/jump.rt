@@ -13,7 +13,7 @@ ghost use Rattle.exchange.specs.Record.{FitsPackage};
 ghost use Rattle.exchange.specs.Jump.{packageVerdict, exchangedTo, exchanged};
 
 // The sixteen words from this address up are in a memory of this length. The address is any number, so 16 is not added to it.
-fn package_is_inside(length: u64, at: u64) -> bool
+pub fn package_is_inside(length: u64, at: u64) -> bool
     ensures { λ r. ⌜ r ≡ leb (at + 16) length ⌝ }
 {
     if length < 16 {

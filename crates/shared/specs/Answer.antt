@@ -10,7 +10,7 @@ use Rattle.schedule.specs.Laws.Projection.{Listed}
 use Rattle.schedule.specs.Laws.Stint.{Ready}
 use Rattle.schedule.specs.Refusals.{mostStints, scheduleVerdict}
 use Rattle.schedule.specs.Schedule.{Schedule, Played, played}
-use Rattle.shared.specs.declared.schedule.ScheduleAnswer.{ScheduleAnswer}
+use Rattle.shared.specs.declared.call.ScheduleAnswer.{ScheduleAnswer}
 use Rattle.shared.specs.declared.stints.StintsEnd.{StintsEnd}
 
 -- what is asked for a list of stints: no number refuses them

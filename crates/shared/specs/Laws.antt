@@ -1,2 +1,7 @@
 -- Consequences of the definitions. Assumes nothing.
+pub mod Tests
+pub mod Owners
 pub mod Stints
+pub mod Answer
+pub mod Isolation
+pub mod OneJob

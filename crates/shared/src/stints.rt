@@ -13,13 +13,17 @@ pub struct StintsEnd {
 }
 
 // Runs the stints in the order listed, each on what the one before it left.
-pub fn run_stints(m: &mut [u64], c: Central, jobs: &[u64], stint_jobs: &[u64], stint_turns: &[u64]) -> StintsEnd
+pub fn run_stints(
+    m: &mut [u64],
+    c: Central,
+    jobs: &[u64],
+    stint_jobs: &[u64],
+    stint_turns: &[u64],
+) -> StintsEnd
     requires { ⌜ MayRun (now m) c (now jobs) (now «stint_jobs») (now «stint_turns») ⌝ }
-    ensures {
-        λ o.
+    ensures { λ o.
         ⌜ stintsTo (now (m .exit)) o
-        ≡ inArrays (stintsOf (now (jobs .entry)) (now («stint_jobs» .entry)) (now («stint_turns» .entry)) (now (m .entry)) c) ⌝
-    }
+        ≡ inArrays (stintsOf (now (jobs .entry)) (now («stint_jobs» .entry)) (now («stint_turns» .entry)) (now (m .entry)) c) ⌝ }
 {
     let mut central = c;
     let mut turns: [u64; 256] = [0; 256];

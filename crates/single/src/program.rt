@@ -22,7 +22,7 @@ pub struct RunAnswer {
 }
 
 // The n words from a up and the k words from b up have one in common.
-fn shares_word(a: u64, n: u64, b: u64, k: u64) -> bool
+pub fn shares_word(a: u64, n: u64, b: u64, k: u64) -> bool
     requires { ⌜ (a + n ≤ 131072) × (b + k ≤ 131072) ⌝ }
     ensures { λ r. ⌜ r ≡ sharesWord a n b k ⌝ }
 {

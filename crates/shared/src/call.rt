@@ -16,12 +16,16 @@ pub struct ScheduleAnswer {
 
 // Runs the jobs, given by the addresses of their packages, in stints, given by the job and the turns of each.
 // The record comes back as it was, its stop included.
-pub fn schedule(memory: &mut [u64], central: Central, jobs: &[u64], stint_jobs: &[u64], stint_turns: &[u64]) -> ScheduleAnswer
-    ensures {
-        λ o.
+pub fn schedule(
+    memory: &mut [u64],
+    central: Central,
+    jobs: &[u64],
+    stint_jobs: &[u64],
+    stint_turns: &[u64],
+) -> ScheduleAnswer
+    ensures { λ o.
         ⌜ answerTo (now (memory .exit)) o
-        ≡ scheduleAnswer (scheduleOf (now (memory .entry)) central (now (jobs .entry)) (now («stint_jobs» .entry)) (now («stint_turns» .entry))) ⌝
-    }
+        ≡ scheduleAnswer (scheduleOf (now (memory .entry)) central (now (jobs .entry)) (now («stint_jobs» .entry)) (now («stint_turns» .entry))) ⌝ }
 {
     match schedule_verdict(&*memory, central, jobs, stint_jobs, stint_turns) {
         Verdict::Accepted => {

@@ -1,0 +1,32 @@
+-- `shared::lists::lists_fit` meets its contract. Assumes nothing.
+use native.Mathlib.Omega.{arith}
+use borrow.Author.Tests.{le-leb, lt-leb}
+use lib.ListN.{length}
+use Rattle.schedule.specs.Refusals.{listsFit}
+use Rattle.shared.proofs.lists.lists_fit.Statement.{statement}
+use Rattle.shared.proofs.lists.lists_fit.Tie as tie
+
+returns : tie.Need-returns
+unfolding listsFit
+returns c = rw (lt-leb 1 (length (c .before .args .jobs .now)) (omega arith))
+
+returns-2 : tie.Need-returns-2
+unfolding listsFit
+returns-2 c =
+    let jobs = c .before .before .args .jobs .now in
+    rw (le-leb 1 (length jobs) (omega arith), lt-leb _ _ (c .if2 .taken))
+
+returns-3 : tie.Need-returns-3
+unfolding listsFit
+returns-3 c =
+    let jobs = c .before .before .before .args .jobs .now in
+    rw (le-leb 1 (length jobs) (omega arith), le-leb _ _ (c .before .if2 .left), lt-leb _ _ (c .if3 .taken))
+
+returns-4 : tie.Need-returns-4
+unfolding listsFit
+returns-4 c =
+    let jobs = c .before .before .before .args .jobs .now in
+    rw (le-leb 1 (length jobs) (omega arith), le-leb _ _ (c .before .if2 .left), le-leb _ _ (c .if3 .left))
+
+pub lists-fit-spec : {M : Type 1} → statement M
+lists-fit-spec = tie.close (tie.spec returns returns-2 returns-3 returns-4)

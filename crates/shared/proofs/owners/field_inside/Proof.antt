@@ -1,0 +1,24 @@
+-- `shared::owners::field_inside` meets its contract. Assumes nothing.
+use native.Mathlib.Omega.{arith}
+use borrow.Author.Needs.{needs}
+use Rattle.exchange.specs.Laws.Package.{field-width}
+use Rattle.exchange.specs.Memory.{part}
+use Rattle.schedule.specs.Refusals.{fieldInside}
+use Rattle.shared.proofs.owners.field_inside.Statement.{statement}
+use Rattle.shared.proofs.owners.field_inside.Tie as tie
+
+load-requires : tie.Need-load-requires
+load-requires c κs = search needs
+
+add-result : tie.Need-add-result
+add-result c =
+    let args = c .before .before .before .args in
+    let width = rw (← c .before .load .ensures) at (field-width (part (args .m .now) (args .at) 16)) in
+    omega arith
+
+returns : tie.Need-returns
+unfolding fieldInside
+returns c = rw (c .before .load .ensures)
+
+pub field-inside-spec : {M : Type 1} → statement M
+field-inside-spec = tie.close (tie.spec load-requires add-result returns)

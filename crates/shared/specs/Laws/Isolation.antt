@@ -1,0 +1,120 @@
+-- Demand 3, of the answers of `schedule`. Assumes nothing.
+use mathlib.Core.Bool.{Bool, true, false, cond}
+use mathlib.Core.List.{List, [], _∷_, _++_}
+use mathlib.Core.Path.{_≡_, refl, sym, ap, subst, _∙_}
+use Prim.Native.Nat.{ℕ, zero, suc, _≤_, _<_}
+use native.Mathlib.Omega.{arith}
+use lib.Dec.{eqb}
+use lib.ListN.{length, getD}
+use Rattle.outcome.specs.declared.refusal.Verdict.the-variants as Call
+use Rattle.outcome.specs.declared.refusal.Verdict.{Verdict}
+use Rattle.exchange.specs.declared.record.Central.{Central}
+use Rattle.single.specs.Stint.{stintOf}
+use Rattle.schedule.specs.Isolation.{Accepted, start, packageIn, fieldIn, ofJob, sum, lastOf, NoneButLast, turnsAsked, Alike, OutsideJob}
+use Rattle.schedule.specs.Laws.Isolation.{isolation, rest-kept, record-kept}
+use Rattle.schedule.specs.Laws.Refusals.{accepted-lists}
+use Rattle.schedule.specs.Refusals.{scheduleVerdict}
+use Rattle.schedule.specs.Schedule.{Schedule, Played, stintsOf, played}
+use Rattle.shared.specs.Answer.{padded, answerBy, scheduleAnswer}
+
+-- a call that is carried out, by its answer
+pub record CarriedOut (s : Schedule) : Type 0 where
+  pub verdict : scheduleAnswer s .answer .verdict ≡ Call.Accepted
+  pub registers : length (s .central .registers) ≡ 24
+
+-- of the answer's entries, those of job i's stints
+abbrev pub turnsOfJob : Schedule → ℕ → List ℕ
+turnsOfJob s i = ofJob i (s .stintJobs) (scheduleAnswer s .answer .turns)
+
+abbrev pub stopsOfJob : Schedule → ℕ → List ℕ
+stopsOfJob s i = ofJob i (s .stintJobs) (scheduleAnswer s .answer .stops)
+
+pub record AnswersAlike (s : Schedule) (i : ℕ) (s′ : Schedule) (i′ : ℕ) : Type 0 where
+  pub packages : packageIn s i (scheduleAnswer s .memory) ≡ packageIn s′ i′ (scheduleAnswer s′ .memory)
+  pub fields : fieldIn s i (scheduleAnswer s .memory) ≡ fieldIn s′ i′ (scheduleAnswer s′ .memory)
+  pub made : sum (turnsOfJob s i) ≡ sum (turnsOfJob s′ i′)
+  pub stop : lastOf (stopsOfJob s i) ≡ lastOf (stopsOfJob s′ i′)
+
+-- the answer has the verdict's number
+same-verdict : (v : Verdict) (s : Schedule) → answerBy v s .answer .verdict ≡ v
+same-verdict Call.Accepted s = refl
+same-verdict (Call.Refused r) s = refl
+
+-- an entry for each stint
+one-each : (jobs js ts m : List ℕ) (c : Central) → length js ≡ length ts
+    → (length (stintsOf jobs js ts m c .turns) ≡ length js) × (length (stintsOf jobs js ts m c .stops) ≡ length js)
+unfolding stintsOf
+one-each jobs [] ts m c e = (refl, refl)
+one-each jobs (j ∷ js) [] m c e = absurd (omega arith)
+one-each jobs (j ∷ js) (t ∷ ts) m c e =
+    let o = stintOf m c (getD jobs j 0) t in
+    let rest = one-each jobs js ts (o .memory) (o .end .central) (omega arith) in
+    (ap suc (rest .0), ap suc (rest .1))
+
+-- entries past the last stint are no job's
+past-last : (i : ℕ) (js xs zs : List ℕ) → length xs ≡ length js → ofJob i js (xs ++ zs) ≡ ofJob i js xs
+unfolding ofJob
+past-last i [] xs zs e = refl
+past-last i (j ∷ js) [] zs e = absurd (omega arith)
+past-last i (j ∷ js) (x ∷ xs) zs e = rw (past-last i js xs zs (omega arith))
+
+module _ (s : Schedule) (a : CarriedOut s) where
+  pub accepted : Accepted s
+  unfolding scheduleAnswer
+  accepted = record { verdict = sym (same-verdict (scheduleVerdict s) s) ∙ a .verdict; registers = a .registers }
+
+  pub answer-is : scheduleAnswer s ≡ answerBy Call.Accepted s
+  unfolding scheduleAnswer
+  answer-is = rw (accepted .verdict)
+
+  module _ (i : ℕ) where
+    pub turns-are : turnsOfJob s i ≡ ofJob i (s .stintJobs) (played s .turns)
+    turns-are =
+        rw answer-is
+        (past-last i (s .stintJobs) (played s .turns) _ (one-each (s .jobs) (s .stintJobs) (s .stintTurns) (s .memory) (s .central) (accepted-lists s accepted .even) .0))
+
+    pub stops-are : stopsOfJob s i ≡ ofJob i (s .stintJobs) (played s .stops)
+    stops-are =
+        rw answer-is
+        (past-last i (s .stintJobs) (played s .stops) _ (one-each (s .jobs) (s .stintJobs) (s .stintTurns) (s .memory) (s .central) (accepted-lists s accepted .even) .1))
+
+-- two calls that are carried out give a job that is alike in package, field and turns asked, and stops in no stint but its last, alike answers
+pub answers-alike : (s s′ : Schedule) → CarriedOut s → CarriedOut s′ → (i i′ : ℕ) → i < length (s .jobs) → i′ < length (s′ .jobs)
+    → NoneButLast (stopsOfJob s i) → NoneButLast (stopsOfJob s′ i′) → Alike s i s′ i′ → AnswersAlike s i s′ i′
+answers-alike s s′ a a′ i i′ li li′ last last′ alike =
+    let e =
+    isolation s s′ (accepted s a) (accepted s′ a′) i i′ li li′
+    (subst NoneButLast (stops-are s a i) last) (subst NoneButLast (stops-are s′ a′ i′) last′) alike in
+    record {
+      packages = rw (answer-is s a, answer-is s′ a′) (e .packages);
+      fields = rw (answer-is s a, answer-is s′ a′) (e .fields);
+      made = rw (turns-are s a i, turns-are s′ a′ i′) (e .made);
+      stop = rw (stops-are s a i, stops-are s′ a′ i′) (e .stop);
+    }
+
+-- accepted or refused, the record comes back as it was, memory keeps its length, and so does every word outside the listed packages and fields its value
+module _ (s : Schedule) (count : length (s .central .registers) ≡ 24) where
+  record-by : (v : Verdict) → scheduleVerdict s ≡ v → answerBy v s .answer .central ≡ s .central
+  record-by Call.Accepted e = record-kept s (record { verdict = e; registers = count })
+  record-by (Call.Refused r) e = refl
+
+  pub record-back : scheduleAnswer s .answer .central ≡ s .central
+  unfolding scheduleAnswer
+  record-back = record-by (scheduleVerdict s) refl
+
+  length-by : (v : Verdict) → scheduleVerdict s ≡ v → length (answerBy v s .memory) ≡ length (start s)
+  length-by Call.Accepted e = rest-kept s (record { verdict = e; registers = count }) .0
+  length-by (Call.Refused r) e = refl
+
+  pub length-back : length (scheduleAnswer s .memory) ≡ length (start s)
+  unfolding scheduleAnswer
+  length-back = length-by (scheduleVerdict s) refl
+
+  module _ (x : ℕ) (out : (i : ℕ) → i < length (s .jobs) → OutsideJob s x i) where
+    word-by : (v : Verdict) → scheduleVerdict s ≡ v → getD (answerBy v s .memory) x 0 ≡ getD (start s) x 0
+    word-by Call.Accepted e = rest-kept s (record { verdict = e; registers = count }) .1 x out
+    word-by (Call.Refused r) e = refl
+
+    pub word-back : getD (scheduleAnswer s .memory) x 0 ≡ getD (start s) x 0
+    unfolding scheduleAnswer
+    word-back = word-by (scheduleVerdict s) refl

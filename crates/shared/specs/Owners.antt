@@ -1,0 +1,13 @@
+-- What is known of the jobs before they are compared with one another. Assumes nothing.
+use mathlib.Core.Bool.{true}
+use mathlib.Core.List.{List}
+use mathlib.Core.Path.{_≡_}
+use Prim.Native.Nat.{ℕ, _≤_}
+use lib.ListN.{length}
+use Rattle.schedule.specs.Refusals.{everyJob, packageInside, fieldInside}
+
+-- numbers 1, 9 and 11 do not refuse
+pub record Inside (m jobs : List ℕ) : Type 0 where
+  pub packages : everyJob jobs (packageInside m) ≡ true
+  pub fields : everyJob jobs (fieldInside m) ≡ true
+  pub at-most : length m ≤ 131072
