@@ -6,7 +6,7 @@ use Prim.Native.Nat.{ℕ, _≤_}
 use lib.ListN.{length}
 use Rattle.schedule.specs.Refusals.{everyJob, packageInside, fieldInside}
 
--- numbers 1, 9 and 11 do not refuse
+-- numbers 9 and 11 refuse no job of a memory that is not too long for number 1
 pub record Inside (m jobs : List ℕ) : Type 0 where
   pub packages : everyJob jobs (packageInside m) ≡ true
   pub fields : everyJob jobs (fieldInside m) ≡ true

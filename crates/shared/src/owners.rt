@@ -67,7 +67,7 @@ fn fields_inside(m: &[u64], jobs: &[u64]) -> bool
     true
 }
 
-// The package of job i has no word in common with the field of job j; of two different jobs, neither have the packages nor the fields.
+// The package of job i and the field of job j share no word; of two different jobs the packages share none either, nor the fields.
 fn jobs_apart(m: &[u64], jobs: &[u64], i: usize, j: usize) -> bool
     requires { ⌜ Inside (now m) (now jobs) ⌝ }
     requires { ⌜ (i < length (now jobs)) × (j < length (now jobs)) ⌝ }

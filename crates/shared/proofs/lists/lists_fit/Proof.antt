@@ -1,4 +1,5 @@
 -- `shared::lists::lists_fit` meets its contract. Assumes nothing.
+use mathlib.Core.Bool.{and-false}
 use native.Mathlib.Omega.{arith}
 use borrow.Author.Tests.{le-leb, lt-leb}
 use lib.ListN.{length}
@@ -14,19 +15,20 @@ returns-2 : tie.Need-returns-2
 unfolding listsFit
 returns-2 c =
     let jobs = c .before .before .args .jobs .now in
-    rw (le-leb 1 (length jobs) (omega arith), lt-leb _ _ (c .if2 .taken))
+    rw (lt-leb (length jobs) 16 (omega arith), and-false)
 
 returns-3 : tie.Need-returns-3
 unfolding listsFit
 returns-3 c =
-    let jobs = c .before .before .before .args .jobs .now in
-    rw (le-leb 1 (length jobs) (omega arith), le-leb _ _ (c .before .if2 .left), lt-leb _ _ (c .if3 .taken))
+    let js = c .before .before .before .args .js .now in
+    rw (lt-leb (length js) 256 (omega arith), and-false)
 
 returns-4 : tie.Need-returns-4
 unfolding listsFit
 returns-4 c =
     let jobs = c .before .before .before .args .jobs .now in
-    rw (le-leb 1 (length jobs) (omega arith), le-leb _ _ (c .before .if2 .left), le-leb _ _ (c .if3 .left))
+    let js = c .before .before .before .args .js .now in
+    rw (le-leb 1 (length jobs) (omega arith), le-leb (length jobs) 16 (omega arith), le-leb (length js) 256 (omega arith))
 
 pub lists-fit-spec : {M : Type 1} → statement M
 lists-fit-spec = tie.close (tie.spec returns returns-2 returns-3 returns-4)

@@ -1,4 +1,5 @@
 -- `shared::owners::jobs_apart` meets its contract. Assumes nothing.
+use native.Mathlib.Omega.{arith}
 use borrow.Author.Needs.{needs}
 use borrow.Author.Tests.{eq-eqb, ne-eqb}
 use Rattle.schedule.specs.Refusals.{jobsApart}
@@ -31,12 +32,11 @@ load-requires-2 c κs =
 shares-word-requires : tie.Need-shares-word-requires
 shares-word-requires c κs =
     let pre = c .before .before .before .before .before .before .pre in
-    rw (c .load2 .ensures) (package-end (pre .0) _ (pre .1 .0), field-end (pre .0) _ (pre .1 .1))
+    rw (c .load2 .ensures) (package-end (pre .0) _ (pre .1 .0), omega (arith, field-end (pre .0) _ (pre .1 .1)))
 
 returns : tie.Need-returns
 unfolding jobsApart
-returns c =
-    rw (← c .before .before .load2 .ensures, ← c .before .shares-word .ensures, c .if1 .taken)
+returns c = rw (← c .before .before .load2 .ensures, ← c .before .shares-word .ensures, c .if1 .taken)
 
 returns-2 : tie.Need-returns-2
 unfolding jobsApart
