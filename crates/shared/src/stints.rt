@@ -1,5 +1,7 @@
 // The stints of a schedule, one after the other.
 ghost use mathlib.Core.Path.{_≡_};
+ghost use Prim.Native.Nat.{_<_};
+ghost use lib.ListN.{length, getD};
 ghost use Rattle.schedule.specs.Schedule.{stintsOf};
 ghost use Rattle.shared.specs.Answer.{MayRun, stintsTo, inArrays};
 use exchange::record::Central;
@@ -10,6 +12,14 @@ pub struct StintsEnd {
     pub central: Central,
     pub turns: [u64; 256],
     pub stops: [u64; 256],
+}
+
+// The address of a listed job's package.
+fn package_of(jobs: &[u64], job: u64) -> usize
+    requires { ⌜ job < length (now jobs) ⌝ }
+    ensures { λ r. ⌜ r ≡ getD (now (jobs .entry)) job 0 ⌝ }
+{
+    jobs[job as usize] as usize
 }
 
 // Runs the stints in the order listed, each on what the one before it left.
@@ -30,8 +40,7 @@ pub fn run_stints(
     let mut stops: [u64; 256] = [0; 256];
     let mut k: usize = 0;
     while k < stint_jobs.len() {
-        let job = stint_jobs[k] as usize;
-        let at = jobs[job] as usize;
+        let at = package_of(jobs, stint_jobs[k]);
         let n = stint_turns[k];
         let o = stint(&mut *m, central, at, n);
         central = o.central;

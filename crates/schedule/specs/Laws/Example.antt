@@ -1,5 +1,4 @@
 -- A worked corollary of demand 3: a job alone, and the same job among fifteen others. Assumes nothing.
-use mathlib.Core.List.{List, [], _∷_}
 use mathlib.Core.Path.{_≡_, refl, sym}
 use Prim.Native.Nat.{ℕ, _≤_, _<_}
 use native.Mathlib.Nat.{add-zero}

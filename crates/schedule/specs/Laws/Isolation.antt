@@ -1,9 +1,8 @@
 -- Demand 3, proved of whole lists of stints. Assumes nothing.
-use mathlib.Core.List.{List}
 use mathlib.Core.Path.{_≡_, sym, ap, ap₂, subst, _∙_}
-use Prim.Native.Nat.{ℕ, _≤_, _<_}
+use Prim.Native.Nat.{ℕ, _<_}
 use native.Mathlib.Omega.{arith}
-use lib.ListN.{length, getD}
+use lib.ListN.{length}
 use Rattle.exchange.specs.Jump.{recordAt}
 use Rattle.exchange.specs.Laws.Jump.{record-at-fits, record-at-fits-package}
 use Rattle.exchange.specs.Laws.Memory.{length-part}
@@ -12,7 +11,7 @@ use Rattle.exchange.specs.Laws.Verdicts.{HostAccepted, of-package-accepted}
 use Rattle.exchange.specs.Memory.{part}
 use Rattle.exchange.specs.Package.{coded, decoded}
 use Rattle.single.specs.Laws.Field.{field-kept}
-use Rattle.schedule.specs.Isolation.{Accepted, start, end, packageAddress, packageIn, fieldIn, ofJob, turnsAsked, NoneButLast, StopsInLastOnly, Alike, EndsAlike, Isolation, OutsideJob, RestKept, RecordKept}
+use Rattle.schedule.specs.Isolation.{Accepted, start, end, packageAddress, fieldIn, ofJob, turnsAsked, NoneButLast, StopsInLastOnly, Isolation, OutsideJob, RestKept, RecordKept}
 use Rattle.schedule.specs.Job.{Job, jobAt, JobPlayed, seenByJob, ownStints}
 use Rattle.schedule.specs.Laws.Projection.{projection, record-back, length-back, ra-back, fl-back, word-back}
 use Rattle.schedule.specs.Laws.Refusals.{accepted-lists, accepted-ready}

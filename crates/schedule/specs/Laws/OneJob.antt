@@ -1,9 +1,9 @@
 -- The run of one program is the schedule of one job and one stint. Assumes nothing.
 use mathlib.Core.Bool.{Bool, true, false, not, _&&_, cond}
 use mathlib.Core.List.{List, [], _∷_}
-use mathlib.Core.Path.{_≡_, refl, ap, _∙_}
+use mathlib.Core.Path.{_≡_, refl, _∙_}
 use Prim.Native.Nat.{ℕ, _+_, _≤_}
-use borrow.Author.Tests.{leb-true, leb-false, le-leb, lt-ltb, le-ltb}
+use borrow.Author.Tests.{leb-true, leb-false, lt-ltb, le-ltb}
 use lib.Dec.{ltb, leb}
 use lib.ListN.{length}
 use Rattle.outcome.specs.declared.refusal.Refusal.the-variants as Refusal
@@ -14,14 +14,13 @@ use Rattle.exchange.specs.Jump.{recordAt, packageVerdict}
 use Rattle.exchange.specs.Laws.Verdicts.{of-host-accepted, of-package-accepted}
 use Rattle.exchange.specs.Memory.{part}
 use Rattle.exchange.specs.Package.{hasStray}
-use Rattle.exchange.specs.Record.{hostVerdict}
 use Rattle.exchange.specs.declared.record.Central.{Central}
 use Rattle.single.specs.Order.{orElse}
 use Rattle.single.specs.Program.{overlapVerdict, ownerVerdict, runVerdict}
 use Rattle.single.specs.Stint as Single
 use Rattle.single.specs.Stint.{stintOf}
 use Rattle.schedule.specs.Refusals.{listsFit, jobsListed, turnsFit, listsVerdict, packageInside, packageClean, fieldInside, packageMeetsField, jobsApart, allApart, ownersVerdict, scheduleVerdict}
-use Rattle.schedule.specs.Schedule.{Schedule, Played, stintThen, stintsOf, played}
+use Rattle.schedule.specs.Schedule.{Schedule, stintsOf, played}
 
 abbrev pub oneJob : List ℕ → Central → ℕ → ℕ → Schedule
 oneJob m c at n = record { memory = m; central = c; jobs = at ∷ []; stintJobs = 0 ∷ []; stintTurns = n ∷ [] }

@@ -3,10 +3,10 @@ use mathlib.Core.Bool.{Bool, true, false, cond}
 use mathlib.Core.List.{List, [], _∷_}
 use mathlib.Core.Logic.{_⊎_}
 use mathlib.Core.Path.{_≡_, refl, ap, subst, _∙_}
-use Prim.Native.Nat.{ℕ, zero, suc, _+_, _≤_, _<_}
+use Prim.Native.Nat.{ℕ, suc, _+_, _≤_, _<_}
 use native.Mathlib.Omega.{arith}
 use borrow.Author.Tests.{eqb-true, eqb-false}
-use lib.Dec.{eqb, lit<}
+use lib.Dec.{eqb}
 use lib.ListN.{length, getD}
 use Rattle.exchange.specs.Jump.{recordAt}
 use Rattle.exchange.specs.declared.record.Central.{Central}
@@ -15,7 +15,7 @@ use Rattle.single.specs.Stint.{StintMemory, stintOf}
 use Rattle.schedule.specs.Isolation.{ofJob}
 use Rattle.schedule.specs.Job.{Job, jobAt, jobRun, jobAfter, JobPlayed, runThen, jobStints, partOfJob}
 use Rattle.schedule.specs.Laws.Stint.{Ready, may-run, record-kept, length-kept, other-job, own-job, own-turns, own-stop, ra-kept, fl-kept, still-ready}
-use Rattle.schedule.specs.Schedule.{Played, stintThen, stintsOf}
+use Rattle.schedule.specs.Schedule.{Played, stintsOf}
 
 -- every stint is of a listed job
 abbrev pub Listed : List ℕ → List ℕ → Type 0

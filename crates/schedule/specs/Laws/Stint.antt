@@ -1,14 +1,12 @@
 -- What a stint leaves of each job, and that the jobs may be scheduled still. Assumes nothing.
 use mathlib.Core.Bool.{Bool, true, false}
 use mathlib.Core.List.{List}
-use mathlib.Core.Logic.{⊎-elim}
 use mathlib.Core.Path.{_≡_, refl, sym, ap, subst, _∙_}
-use Prim.Native.Nat.{ℕ, _+_, _≤_, _<_}
+use Prim.Native.Nat.{ℕ, _<_}
 use native.Mathlib.Omega.{arith}
 use borrow.Author.Tests.{eqb-true, eqb-false}
 use lib.Dec.{eqb}
 use lib.ListN.{length, getD}
-use Rattle.central.specs.Turn.{Run}
 use Rattle.exchange.specs.Jump.{recordAt}
 use Rattle.exchange.specs.Laws.Memory.{part-same}
 use Rattle.exchange.specs.Laws.Package.{coded-no-stray}
@@ -21,7 +19,7 @@ use Rattle.single.specs.Laws.Stint.{stint-record, stint-outside, stint-length, 
 use Rattle.single.specs.Overlap.{sharesWord}
 use Rattle.single.specs.Stint as Single
 use Rattle.single.specs.Stint.{stintOf}
-use Rattle.schedule.specs.Job.{Job, jobAt, jobRun, jobAfter}
+use Rattle.schedule.specs.Job.{jobAt, jobRun, jobAfter}
 use Rattle.schedule.specs.Refusals.{packageMeetsField, packagesMeet, fieldsMeet}
 
 -- memory, record and jobs that may be scheduled: the host lends what it may, each package is accepted, and no two packages or fields share a word

@@ -1,21 +1,20 @@
 -- A job's own stints, where none but the last stops, are one stint of the turns of all. Assumes nothing.
 use mathlib.Core.List.{List, [], _∷_}
-use mathlib.Core.Path.{_≡_, refl, sym, ap, _∙_}
+use mathlib.Core.Path.{_≡_, sym, ap, _∙_}
 use Prim.Native.Nat.{ℕ, _+_, _≤_}
 use native.Mathlib.Nat.{add-zero}
-use lib.ListN.{length}
 use Rattle.central.specs.Laws.Run.{RunLeft, run-left, turns-then-turns}
 use Rattle.central.specs.State.{state}
 use Rattle.central.specs.Turn.{turnsBefore, turnsOf}
 use Rattle.central.specs.Widths.{Kept}
-use Rattle.exchange.specs.Laws.Package.{decoded-coded, stop-decoded}
+use Rattle.exchange.specs.Laws.Package.{decoded-coded}
 use Rattle.exchange.specs.Package.{coded, decoded}
 use Rattle.exchange.specs.Record.{FitsPackage, running}
 use Rattle.exchange.specs.declared.record.Central.{Central}
 use Rattle.single.specs.Field.{boundsOf, recordAfter}
 use Rattle.single.specs.Laws.Field.{after-fits-package}
 use Rattle.schedule.specs.Isolation.{sum, lastOf, NoneButLast}
-use Rattle.schedule.specs.Job.{Job, turnsOn, jobRun, jobAfter, JobPlayed, jobStints}
+use Rattle.schedule.specs.Job.{Job, jobRun, jobAfter, JobPlayed, jobStints}
 
 -- a job with its widths
 pub record Fit (w : Job) : Type 0 where

@@ -1,8 +1,5 @@
 -- The call that runs a schedule: an accepted call, by the results of its stints. Assumes nothing.
-use mathlib.Core.List.{List}
 use mathlib.Core.Path.{_≡_}
-use Prim.Native.Nat.{ℕ}
-use lib.ListN.{length}
 use Rattle.outcome.specs.declared.refusal.Verdict.the-variants as Call
 use Rattle.schedule.specs.Isolation.{Accepted}
 use Rattle.schedule.specs.Laws.Refusals.{accepted-lists, accepted-ready}

@@ -1,21 +1,19 @@
 -- Demand 3, of the answers of `schedule`. Assumes nothing.
-use mathlib.Core.Bool.{Bool, true, false, cond}
 use mathlib.Core.List.{List, [], _∷_, _++_}
 use mathlib.Core.Path.{_≡_, refl, sym, ap, subst, _∙_}
-use Prim.Native.Nat.{ℕ, zero, suc, _≤_, _<_}
+use Prim.Native.Nat.{ℕ, suc, _<_}
 use native.Mathlib.Omega.{arith}
-use lib.Dec.{eqb}
 use lib.ListN.{length, getD}
 use Rattle.outcome.specs.declared.refusal.Verdict.the-variants as Call
 use Rattle.outcome.specs.declared.refusal.Verdict.{Verdict}
 use Rattle.exchange.specs.declared.record.Central.{Central}
 use Rattle.single.specs.Stint.{stintOf}
-use Rattle.schedule.specs.Isolation.{Accepted, start, packageIn, fieldIn, ofJob, sum, lastOf, NoneButLast, turnsAsked, Alike, OutsideJob}
+use Rattle.schedule.specs.Isolation.{Accepted, start, packageIn, fieldIn, ofJob, sum, lastOf, NoneButLast, Alike, OutsideJob}
 use Rattle.schedule.specs.Laws.Isolation.{isolation, rest-kept, record-kept}
 use Rattle.schedule.specs.Laws.Refusals.{accepted-lists}
 use Rattle.schedule.specs.Refusals.{scheduleVerdict}
-use Rattle.schedule.specs.Schedule.{Schedule, Played, stintsOf, played}
-use Rattle.shared.specs.Answer.{padded, answerBy, scheduleAnswer}
+use Rattle.schedule.specs.Schedule.{Schedule, stintsOf, played}
+use Rattle.shared.specs.Answer.{answerBy, scheduleAnswer}
 
 -- a call that is carried out, by its answer
 pub record CarriedOut (s : Schedule) : Type 0 where

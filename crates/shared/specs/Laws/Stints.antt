@@ -65,12 +65,13 @@ module _ (jobs js ts m₀ : List ℕ) (c₀ : Central) (m : List ℕ) (c : Centr
       let is = rw (none, append-nil (take k turns), append-nil (take k stops)) at (g .is) in
       rw (← is, filled-all k turns most (g .turns-filled), filled-all k stops most (g .stops-filled))
 
-  module _ (l : k < length js) where
-    pub job-listed : getD js k 0 < length jobs
-    job-listed = g .may .listed k l
+  -- a stint of any listed job may be made now
+  pub stint-allowed : (i : ℕ) → i < length js → (at : ℕ) → at ≡ getD jobs (getD js i 0) 0 → Single.Accepted m c at
+  stint-allowed i l at e = subst (Single.Accepted m c) (sym e) (may-run m c jobs (g .may .ready) (getD js i 0) (g .may .listed i l))
 
-    pub stint-allowed : Single.Accepted m c (getD jobs (getD js k 0) 0)
-    stint-allowed = may-run m c jobs (g .may .ready) (getD js k 0) job-listed
+  module _ (l : k < length js) where
+    job-listed : getD js k 0 < length jobs
+    job-listed = g .may .listed k l
 
     abbrev made : StintMemory
     made = stintOf m c (getD jobs (getD js k 0) 0) (getD ts k 0)
@@ -97,8 +98,8 @@ module _ (jobs js ts m₀ : List ℕ) (c₀ : Central) (m : List ℕ) (c : Centr
             most = g .may .most;
           }
 
-      pub going-on : Going jobs js ts m₀ c₀ (o .memory) (o .end .central) (set turns k (o .end .turns)) (set stops k (o .end .stop)) (k + 1)
-      going-on =
+      stint-made : Going jobs js ts m₀ c₀ (o .memory) (o .end .central) (set turns k (o .end .turns)) (set stops k (o .end .stop)) (k + 1)
+      stint-made =
           record {
             may = still-may;
             upto = omega arith;
@@ -119,3 +120,7 @@ module _ (jobs js ts m₀ : List ℕ) (c₀ : Central) (m : List ℕ) (c : Centr
                 ∙ ap (joined (take k turns) (take k stops)) (sym next-stint)
                 ∙ g .is);
           }
+
+    pub going-on : (at : ℕ) → at ≡ getD jobs (getD js k 0) 0 → (o : StintMemory) → o ≡ stintOf m c at (getD ts k 0)
+        → Going jobs js ts m₀ c₀ (o .memory) (o .end .central) (set turns k (o .end .turns)) (set stops k (o .end .stop)) (k + 1)
+    going-on at e o h = stint-made o (h ∙ ap (λ (x : ℕ). stintOf m c x (getD ts k 0)) e)
