@@ -3,6 +3,9 @@ ghost use Prim.Native.Nat.{_≤_};
 ghost use lib.ListN.{length};
 use super::line::Numbers;
 use super::line::RECORD;
+use super::line::STINT_COUNT;
+use super::line::STINTS;
+use super::line::TURNS;
 use super::memory;
 use octal::write::write_octal;
 
@@ -88,6 +91,33 @@ fn put_record(text: &mut Text, at: usize, numbers: &Numbers) -> usize
     next
 }
 
+// An answer has no more stints than a schedule, but the array does not say so.
+fn stint_count(numbers: &Numbers) -> usize
+    ensures { λ r. ⌜ r ≤ 256 ⌝ }
+{
+    let n = numbers[STINT_COUNT];
+    if n <= 256 {
+        return n as usize;
+    }
+    256
+}
+
+// How many stints there are, then the turns and the stop of each.
+fn put_stints(text: &mut Text, at: usize, numbers: &Numbers) -> usize
+    requires { ⌜ at ≤ 4096 ⌝ }
+    ensures { λ r. ⌜ r ≤ 4096 ⌝ }
+{
+    let n = stint_count(numbers);
+    let mut next = put(&mut *text, at, n as u64);
+    let mut i: usize = 0;
+    while i < n {
+        next = put(&mut *text, next, numbers[STINTS + i]);
+        next = put(&mut *text, next, numbers[TURNS + i]);
+        i = i + 1;
+    }
+    next
+}
+
 // Ends the line and sends what is left of it.
 fn end(text: &mut Text, at: usize)
     requires { ⌜ at ≤ 4096 ⌝ }
@@ -97,7 +127,7 @@ fn end(text: &mut Text, at: usize)
     flush(&*text, start + 1);
 }
 
-// COUNT, WORD, MARK and the stints are 0: the calls on the central record have none.
+// COUNT, WORD and MARK are 0: the calls on the central record have none.
 pub(crate) fn write(refusal: u64, central: &[u64], peripheral: &[u16], numbers: &Numbers) {
     let mut text = [0u8; 4096];
     let mut at = write_octal(&mut text, 0, refusal);
@@ -107,6 +137,6 @@ pub(crate) fn write(refusal: u64, central: &[u64], peripheral: &[u16], numbers: 
     at = put_central(&mut text, at, central);
     at = put_peripheral(&mut text, at, peripheral);
     at = put_record(&mut text, at, numbers);
-    at = put(&mut text, at, 0);
+    at = put_stints(&mut text, at, numbers);
     end(&mut text, at);
 }

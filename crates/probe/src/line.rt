@@ -29,17 +29,17 @@ pub(crate) const REGISTERS: usize = 10;
 
 pub(crate) const STOP: usize = 34;
 
-const JOB_COUNT: usize = 114;
+pub(crate) const JOB_COUNT: usize = 114;
 
-const JOBS: usize = 115;
+pub(crate) const JOBS: usize = 115;
 
-const STINT_COUNT: usize = 132;
+pub(crate) const STINT_COUNT: usize = 132;
 
-const STINTS: usize = 133;
+pub(crate) const STINTS: usize = 133;
 
-const TURN_COUNT: usize = 390;
+pub(crate) const TURN_COUNT: usize = 390;
 
-const TURNS: usize = 391;
+pub(crate) const TURNS: usize = 391;
 // One past the last place: the line is complete.
 const END: usize = 648;
 

@@ -30,8 +30,8 @@ put-peripheral-requires c κs = search needs
 put-record-requires : tie.Need-put-record-requires
 put-record-requires c κs = search needs
 
-put-requires-4 : tie.Need-put-requires-4
-put-requires-4 c κs = search needs
+put-stints-requires : tie.Need-put-stints-requires
+put-stints-requires c κs = search needs
 
 end-requires : tie.Need-end-requires
 end-requires c κs = search needs
@@ -51,6 +51,6 @@ write-spec =
     put-central-requires
     put-peripheral-requires
     put-record-requires
-    put-requires-4
+    put-stints-requires
     end-requires
     returns)
