@@ -7,9 +7,9 @@ use lib.ListN.{getD}
 use Rattle.word.specs.Bits.{low}
 use Rattle.word.specs.Sums.{sum, difference, signExtend}
 use Rattle.word.specs.Logic.{logical}
-use Rattle.word.specs.Shifts.{rotateLeft, mask, shiftRightSigned, nominalLeft, nominalRight, countOnes}
-use Rattle.word.specs.Floating.{coefficientOf, exponentOf, packed}
 use Rattle.word.specs.Conditions.{wordCondition, comparison}
+use Rattle.shift.specs.Shifts.{rotateLeft, mask, shiftRightSigned, nominalLeft, nominalRight, countOnes}
+use Rattle.shift.specs.Floating.{coefficientOf, exponentOf, packed}
 use Rattle.outcome.specs.declared.stop.CentralStop.the-variants as Because
 use Rattle.instruction.specs.Registers.{aOf, bOf, xOf}
 use Rattle.instruction.specs.declared.instruction.Instruction.{Instruction}

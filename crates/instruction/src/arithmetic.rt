@@ -6,8 +6,8 @@ use super::effect::Effect;
 use super::instruction::Instruction;
 use super::registers::x_of;
 use outcome::stop::CentralStop;
-use word::shifts::count_ones60;
-use word::shifts::mask60;
+use shift::shifts::count_ones60;
+use shift::shifts::mask60;
 use word::sums::difference60;
 use word::sums::sum60;
 

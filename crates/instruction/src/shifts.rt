@@ -8,12 +8,12 @@ use super::instruction::Instruction;
 use super::registers::b_of;
 use super::registers::x_of;
 use outcome::stop::CentralStop;
-use word::floating::pack;
-use word::floating::unpack;
-use word::shifts::nominal_left;
-use word::shifts::nominal_right;
-use word::shifts::rotate_left60;
-use word::shifts::shift_right60;
+use shift::floating::pack;
+use shift::floating::unpack;
+use shift::shifts::nominal_left;
+use shift::shifts::nominal_right;
+use shift::shifts::rotate_left60;
+use shift::shifts::shift_right60;
 
 // 26: the coefficient of x to Xi, its exponent to Bj.
 fn unpack_to(i: usize, j: usize, x: u64) -> Effect

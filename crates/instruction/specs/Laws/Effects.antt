@@ -9,11 +9,11 @@ use Rattle.word.specs.Conditions.{wordCondition, comparison}
 use Rattle.word.specs.Fields.{parcel}
 use Rattle.word.specs.Laws.Bits.{bits-lt}
 use Rattle.word.specs.Laws.Choice.{of-cond, of-getD}
-use Rattle.word.specs.Laws.Floating.{coefficient-lt, exponent-lt, packed-lt}
 use Rattle.word.specs.Laws.Logic.{logical-lt}
-use Rattle.word.specs.Laws.Rotation.{rotate-lt}
-use Rattle.word.specs.Laws.Shifts.{mask-lt, signed-lt, nominal-left-lt, nominal-right-lt, count-le}
 use Rattle.word.specs.Laws.Sums.{sum-lt, difference-lt, extend-lt}
+use Rattle.shift.specs.Laws.Floating.{coefficient-lt, exponent-lt, packed-lt}
+use Rattle.shift.specs.Laws.Rotation.{rotate-lt}
+use Rattle.shift.specs.Laws.Shifts.{mask-lt, signed-lt, nominal-left-lt, nominal-right-lt, count-le}
 use Rattle.instruction.specs.Registers.{aOf, bOf, xOf}
 use Rattle.instruction.specs.Instruction.{constantAt, decoded}
 use Rattle.instruction.specs.Effects.{jumpIf, firstBranches, branchOf, unpackTo, shifts, leftOut, shiftOf, sumOf, maskOrCountOf, operands, operandOf, rows, effectOf}

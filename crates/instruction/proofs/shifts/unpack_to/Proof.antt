@@ -1,6 +1,6 @@
 -- `instruction::shifts::unpack_to` meets its contract. Assumes nothing.
 use borrow.Author.Needs.{needs}
-use Rattle.word.specs.Floating.{unpackedFrom}
+use Rattle.shift.specs.Floating.{unpackedFrom}
 use Rattle.instruction.proofs.shifts.unpack_to.Tie as tie
 use Rattle.instruction.specs.Effects.{unpackTo}
 use Rattle.instruction.proofs.shifts.unpack_to.Statement.{statement}
