@@ -6,16 +6,16 @@ use lib.Dec.{eqb, ltb}
 use lib.ListN.{getD, set}
 use Rattle.word.specs.Bits.{bit}
 use Rattle.outcome.specs.declared.stop.CentralStop.the-variants as Because
+use Rattle.instruction.specs.Registers.{xOf, setA, setB, setX}
+use Rattle.instruction.specs.declared.effect.Effect.{Effect}
+use Rattle.instruction.specs.declared.effect.Effect.the-variants.{Pass, Stop, Jump, ReturnJump, SetA, SetB, SetX, SetXB}
 use Rattle.central.specs.declared.apply.Step.the-variants as Then
 use Rattle.central.specs.State.{State, state}
-use Rattle.central.specs.Registers.{xOf, setA, setB, setX}
 use Rattle.central.specs.Address.{placeOf, relative, indexOf}
 use Rattle.central.specs.declared.address.Bounds.{Bounds}
 use Rattle.central.specs.declared.address.Place.{Place}
 use Rattle.central.specs.declared.address.Place.the-variants.{Inside, Outside}
 use Rattle.central.specs.declared.apply.Step.{Step}
-use Rattle.central.specs.declared.effect.Effect.{Effect}
-use Rattle.central.specs.declared.effect.Effect.the-variants.{Pass, Stop, Jump, ReturnJump, SetA, SetB, SetX, SetXB}
 
 -- the state after an effect, and the step that follows
 pub record After : Type 0 where

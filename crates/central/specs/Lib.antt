@@ -1,9 +1,6 @@
--- The definitions that the contracts of `central` cite, in the order of a turn. A reader has to believe these, but for `Widths`, which only
--- says what the functions ask for; `Laws` is proved from them.
+-- The definitions that the contracts of `central` cite, in the order of a turn, over those of `instruction`. A reader has to believe these, but
+-- for `Widths`, which only says what the functions ask for; `Laws` is proved from them.
 pub mod State
-pub mod Registers
-pub mod Instruction
-pub mod Effects
 pub mod Address
 pub mod Apply
 pub mod Turn

@@ -1,18 +1,19 @@
 // The only code that writes registers or the field.
 ghost use mathlib.Core.Path.{_≡_};
 ghost use Prim.Native.Nat.{_^_, _<_, _≤_};
+ghost use Rattle.instruction.specs.Widths.{Sound};
 ghost use Rattle.central.specs.State.{state};
 ghost use Rattle.central.specs.Address.{Within};
 ghost use Rattle.central.specs.Apply.{after, referred, aSet, stored, returnJumped, applied};
-ghost use Rattle.central.specs.Widths.{Lent, Sound};
+ghost use Rattle.central.specs.Widths.{Lent};
 use super::address::Bounds;
 use super::address::Place;
 use super::address::Relative;
 use super::address::convert;
 use super::address::index;
-use super::effect::Effect;
-use super::registers::set_b;
-use super::registers::set_x;
+use instruction::effect::Effect;
+use instruction::registers::set_b;
+use instruction::registers::set_x;
 use outcome::stop::CentralStop;
 
 // What follows an instruction.

@@ -2,12 +2,5 @@
 // instruction is decoded, its effect is worked out without writing, and one function applies it.
 pub mod address;
 pub mod apply;
-pub mod arithmetic;
-pub mod branches;
-pub mod effect;
-pub mod increments;
-pub mod instruction;
-pub mod registers;
-pub mod shifts;
 pub mod step;
 pub mod turn;

@@ -1,17 +1,18 @@
 // One instruction: its fitness and its length are tested first, 4 before 5, then its effect is applied.
 ghost use mathlib.Core.Path.{_≡_};
-ghost use Prim.Native.Nat.{_<_, _≤_};
+ghost use Prim.Native.Nat.{_<_};
+ghost use Rattle.instruction.specs.Widths.{Wide};
 ghost use Rattle.central.specs.State.{state};
 ghost use Rattle.central.specs.Apply.{after};
 ghost use Rattle.central.specs.Turn.{stepOf};
-ghost use Rattle.central.specs.Widths.{Wide, Lent};
+ghost use Rattle.central.specs.Widths.{Lent};
 use super::address::Bounds;
 use super::apply::Step;
 use super::apply::apply;
-use super::effect::effect_of;
-use super::instruction::decode;
-use super::instruction::is_fit;
-use super::instruction::parcels;
+use instruction::effect::effect_of;
+use instruction::instruction::decode;
+use instruction::instruction::is_fit;
+use instruction::instruction::parcels;
 use outcome::stop::CentralStop;
 
 // The instruction at this place of the word w, which stands at p.

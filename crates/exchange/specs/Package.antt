@@ -5,9 +5,10 @@ use mathlib.Core.List.{List, [], _∷_}
 use lib.Dec.{ltb, eqb}
 use lib.ListN.{getD}
 use Rattle.word.specs.Bits.{bits}
+use Rattle.instruction.specs.Registers.{aOf, bOf, xOf}
 use Rattle.exchange.specs.declared.record.Central.{Central}
 use Rattle.exchange.specs.Indexed.{all, tabulate}
-use Rattle.exchange.specs.Record.{emFits, aOf, bOf, xOf}
+use Rattle.exchange.specs.Record.{emFits}
 
 -- "Bits 53 to 36 of words 0 to 3 hold P, RA, FL, EM."
 abbrev pub controls : Central → List ℕ
@@ -15,7 +16,7 @@ controls c = c .p ∷ c .ra ∷ c .fl ∷ c .em ∷ []
 
 -- "Word n, for 0 to 7, holds An in bits 35 to 18 and Bn in bits 17 to 0; words 8 to 15 hold X0 to X7."
 unfoldable pub packageWord : Central → ℕ → ℕ
-packageWord c n = cond (ltb n 8) (getD (controls c) n 0 * 2 ^ 36 + aOf c n * 2 ^ 18 + bOf c n) (xOf c (n - 8))
+packageWord c n = cond (ltb n 8) (getD (controls c) n 0 * 2 ^ 36 + aOf (c .registers) n * 2 ^ 18 + bOf (c .registers) n) (xOf (c .registers) (n - 8))
 
 -- the package of a record
 unfoldable pub coded : Central → List ℕ

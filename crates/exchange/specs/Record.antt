@@ -9,18 +9,9 @@ use Rattle.word.specs.Bits.{bits}
 use Rattle.outcome.specs.declared.refusal.Refusal.the-variants as Refusal
 use Rattle.outcome.specs.declared.refusal.Verdict.{Verdict}
 use Rattle.outcome.specs.declared.refusal.Verdict.the-variants as Call
+use Rattle.instruction.specs.Registers.{bOf}
 use Rattle.exchange.specs.declared.record.Central.{Central}
 use Rattle.exchange.specs.Indexed.{all}
-
--- A0 to A7, B0 to B7 and X0 to X7 in the list of the 24 registers
-abbrev pub aOf : Central → ℕ → ℕ
-aOf c n = getD (c .registers) n 0
-
-abbrev pub bOf : Central → ℕ → ℕ
-bOf c n = getD (c .registers) (8 + n) 0
-
-abbrev pub xOf : Central → ℕ → ℕ
-xOf c n = getD (c .registers) (16 + n) 0
 
 -- the record with the processor running
 abbrev pub running : Central → Central
@@ -49,7 +40,7 @@ recordFits length c =
     && ltb (c .fl) (2 ^ 18)
     && leb (c .ra + c .fl) length
     && leb (c .stop) 5
-    && eqb (bOf c 0) 0
+    && eqb (bOf (c .registers) 0) 0
     && emFits (c .em)
     && registersFit (c .registers)
 
@@ -60,7 +51,7 @@ pub record FitsPackage (c : Central) : Type 0 where
   pub fl-width : c .fl < 2 ^ 18
   pub em-fits : emFits (c .em) ≡ true
   pub register-width : (i : ℕ) → i < 24 → getD (c .registers) i 0 < 2 ^ registerWidth i
-  pub b0-zero : bOf c 0 ≡ 0
+  pub b0-zero : bOf (c .registers) 0 ≡ 0
 
 -- "1 to 131,072 lent words"
 abbrev pub lengthFits : ℕ → Bool

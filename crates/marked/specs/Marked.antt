@@ -10,11 +10,11 @@ use lib.Count.{onesIn}
 use lib.ListN.{getD, set}
 use Rattle.word.specs.Bits.{low}
 use Rattle.word.specs.Sums.{complement, sum, difference}
-use Rattle.word.specs.Shifts.{rotateLeft, mask, shiftRightSigned, shiftA, countOnes}
-use Rattle.word.specs.Floating.{magnitude, coefficientOf, exponentFrom, exponentOf}
+use Rattle.shift.specs.Shifts.{rotateLeft, mask, shiftRightSigned, shiftA, countOnes}
+use Rattle.shift.specs.Floating.{magnitude, coefficientOf, exponentFrom, exponentOf}
+use Rattle.instruction.specs.Instruction.{constantAt, decoded, isLong, isLeftOut, isFit, parcelsOf}
+use Rattle.instruction.specs.Effects.{branchOf, effectOf}
 use Rattle.central.specs.State.{State, state}
-use Rattle.central.specs.Instruction.{constantAt, decoded, isLong, isLeftOut, isFit, parcelsOf}
-use Rattle.central.specs.Effects.{branchOf, effectOf}
 use Rattle.central.specs.Address.{placeOf}
 use Rattle.central.specs.Apply.{returnJumped, applied}
 use Rattle.central.specs.Turn.{ranAt, turned, turnEnd, parcelsRun, wordRun, turnOf}

@@ -3,7 +3,4 @@ pub mod Choice
 pub mod Bits
 pub mod Sums
 pub mod Logic
-pub mod Rotation
-pub mod Shifts
-pub mod Floating
 pub mod Fields

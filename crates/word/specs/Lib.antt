@@ -2,11 +2,8 @@
 -- document 01, "Arithmetic", for n bits
 pub mod Bits
 pub mod Sums
--- 10 to 17, 20 to 23, 43, 47, and the peripheral logical and shift codes
+-- 10 to 17, and the peripheral logical codes
 pub mod Logic
-pub mod Shifts
--- 26 and 27
-pub mod Floating
 -- 03 to 07
 pub mod Conditions
 -- parcels, and the five parts of 60 and 62

@@ -2,7 +2,5 @@
 // A contract names a definition of specs/, which follows document 01; bounds of the results are laws in specs/Laws.
 pub mod conditions;
 pub mod fields;
-pub mod floating;
 pub mod logic;
-pub mod shifts;
 pub mod sums;

@@ -1,4 +1,4 @@
-// Prints the results of every operation of `word` on edge operands, in octal. The expected output, in the file stdout, was
+// Prints the results of every operation of `word` and `shift` on edge operands, in octal. The expected output, in the file stdout, was
 // written by expected.py beside it, which goes by strings of bits and by signed whole numbers and shares nothing with this code.
 mod show;
 mod values18;

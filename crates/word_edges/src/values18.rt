@@ -1,16 +1,16 @@
 // Operations on values of 18 bits, alone and with a word.
 ghost use Prim.Native.Nat.{_<_, _^_};
 use super::show;
+use shift::floating::pack;
+use shift::shifts::nominal_left;
+use shift::shifts::nominal_right;
+use shift::shifts::rotate_left18;
+use shift::shifts::shift_a;
+use shift::shifts::shift_right18;
 use word::conditions::comparison;
-use word::floating::pack;
 use word::logic::logical_difference;
 use word::logic::logical_product;
 use word::logic::selective_clear;
-use word::shifts::nominal_left;
-use word::shifts::nominal_right;
-use word::shifts::rotate_left18;
-use word::shifts::shift_a;
-use word::shifts::shift_right18;
 use word::sums::complement18;
 use word::sums::difference18;
 use word::sums::is_negative18;

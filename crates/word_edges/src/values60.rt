@@ -1,6 +1,11 @@
 // Operations on words of 60 bits.
 ghost use Prim.Native.Nat.{_<_, _^_};
 use super::show;
+use shift::floating::unpack;
+use shift::shifts::count_ones60;
+use shift::shifts::mask60;
+use shift::shifts::rotate_left60;
+use shift::shifts::shift_right60;
 use word::conditions::word_condition;
 use word::fields::code;
 use word::fields::constant_k;
@@ -9,12 +14,7 @@ use word::fields::from_parts;
 use word::fields::jk;
 use word::fields::parcel;
 use word::fields::part;
-use word::floating::unpack;
 use word::logic::logical;
-use word::shifts::count_ones60;
-use word::shifts::mask60;
-use word::shifts::rotate_left60;
-use word::shifts::shift_right60;
 use word::sums::complement60;
 use word::sums::difference60;
 use word::sums::is_negative60;

@@ -5,19 +5,19 @@ use mathlib.Core.Path.{_≡_, refl, ap, _∙_}
 use Prim.Native.Nat.{ℕ, zero, suc, _+_, _-_}
 use native.Mathlib.Omega.{arith}
 use lib.Dec.{ltb}
+use Rattle.instruction.specs.Registers.{setA}
+use Rattle.instruction.specs.Instruction.{decoded, parcelsOf}
+use Rattle.instruction.specs.Effects.{effectOf}
+use Rattle.instruction.specs.declared.effect.Effect.{Effect}
+use Rattle.instruction.specs.declared.effect.Effect.the-variants.{Pass, Stop, Jump, ReturnJump, SetA, SetB, SetX, SetXB}
 use Rattle.central.specs.declared.apply.Step.the-variants as Then
 use Rattle.central.specs.State.{State, state}
-use Rattle.central.specs.Registers.{setA}
-use Rattle.central.specs.Instruction.{decoded, parcelsOf}
-use Rattle.central.specs.Effects.{effectOf}
 use Rattle.central.specs.Address.{placeOf}
 use Rattle.central.specs.Apply.{After, referred, aSet, storedAt, returnJumped, applied}
 use Rattle.central.specs.Turn.{ranAt, stepOf, Turn, turned, turnEnd, goOn, parcelsRun, fetched, turnOf, afterTurn, turnsOf}
 use Rattle.central.specs.declared.address.Bounds.{Bounds}
 use Rattle.central.specs.declared.address.Place.the-variants.{Inside, Outside}
 use Rattle.central.specs.declared.apply.Step.{Step}
-use Rattle.central.specs.declared.effect.Effect.{Effect}
-use Rattle.central.specs.declared.effect.Effect.the-variants.{Pass, Stop, Jump, ReturnJump, SetA, SetB, SetX, SetXB}
 
 abbrev pub bounds : ℕ → ℕ → ℕ → Bounds
 bounds ra fl em = record { ra = ra; fl = fl; em = em }

@@ -1,38 +1,32 @@
 -- One instruction: by the results of its parts, what it keeps, and where it goes on. Assumes nothing.
 use mathlib.Core.Bool.{Bool, true, false, not}
 use mathlib.Core.List.{List}
-use mathlib.Core.Path.{_≡_, refl, sym, subst}
-use Prim.Native.Nat.{ℕ, _+_, _-_, _^_, _≤_, _<_}
+use mathlib.Core.Path.{_≡_, refl}
+use Prim.Native.Nat.{ℕ, _+_, _^_, _≤_, _<_}
 use native.Mathlib.Omega.{arith}
-use borrow.Author.Tests.{lt-ltb, le-ltb, ltb-true}
+use borrow.Author.Tests.{lt-ltb, le-ltb, ltb-true, not-true, not-false}
 use lib.Dec.{eqb, ltb}
 use Rattle.word.specs.Laws.Choice.{of-cond}
 use Rattle.outcome.specs.declared.stop.CentralStop.the-variants as Because
+use Rattle.instruction.specs.Instruction.{decoded, isFit, parcelsOf}
+use Rattle.instruction.specs.Effects.{effectOf}
+use Rattle.instruction.specs.Widths.{Sound}
+use Rattle.instruction.specs.Laws.Codes.{parcels-few}
+use Rattle.instruction.specs.Laws.Effects.{decoded-fits, effect-sound}
+use Rattle.instruction.specs.declared.effect.Effect.{Effect}
+use Rattle.instruction.specs.declared.effect.Effect.the-variants.{Pass, Stop, Jump, ReturnJump, SetA, SetB, SetX, SetXB}
+use Rattle.instruction.specs.declared.instruction.Instruction.{Instruction}
 use Rattle.central.specs.declared.apply.Step.the-variants as Then
 use Rattle.central.specs.State.{State}
-use Rattle.central.specs.Instruction.{decoded, isLong, isFit, parcelsOf}
-use Rattle.central.specs.Effects.{effectOf}
 use Rattle.central.specs.Address.{placeOf, relative}
 use Rattle.central.specs.Apply.{After, stopsOutside, referred, aSet, storedAt, returnJumped, applied}
 use Rattle.central.specs.Turn.{stoppedBy, ranAt, stepOf}
-use Rattle.central.specs.Widths.{Kept, Sound}
-use Rattle.central.specs.Laws.Effects.{decoded-fits, effect-sound}
+use Rattle.central.specs.Widths.{Kept}
 use Rattle.central.specs.Laws.Widths.{KeptAfter, apply-keeps}
 use Rattle.central.specs.declared.address.Bounds.{Bounds}
 use Rattle.central.specs.declared.address.Place.{Place}
 use Rattle.central.specs.declared.address.Place.the-variants.{Inside, Outside}
 use Rattle.central.specs.declared.apply.Step.{Step}
-use Rattle.central.specs.declared.effect.Effect.{Effect}
-use Rattle.central.specs.declared.effect.Effect.the-variants.{Pass, Stop, Jump, ReturnJump, SetA, SetB, SetX, SetXB}
-use Rattle.central.specs.declared.instruction.Instruction.{Instruction}
-
-not-true : (t : Bool) → not t ≡ true → t ≡ false
-not-true true e = sym e
-not-true false e = refl
-
-not-false : (t : Bool) → not t ≡ false → t ≡ true
-not-false true e = refl
-not-false false e = sym e
 
 -- an instruction, by the results of its parts
 module _ (s : State) (b : Bounds) (p place : ℕ) (q : Instruction) (fit : Bool) (ef : fit ≡ isFit (q .code) (q .i)) where
@@ -48,13 +42,6 @@ module _ (s : State) (b : Bounds) (p place : ℕ) (q : Instruction) (fit : Bool)
     pub ran-whole : (f : Effect) (a : After) → next ≤ 4 → f ≡ effectOf (s .registers) q p → a ≡ applied s b f next → a ≡ ranAt s b p place q
     unfolding ranAt
     ran-whole f a h ee ea = rw (← ef, not-false fit e, ← en, le-ltb 4 next h, ← ee) ea
-
--- an instruction has one or two parcels
-pub parcels-few : (c n : ℕ) → n ≡ parcelsOf c → (1 ≤ n) × (n ≤ 2)
-unfolding parcelsOf
-parcels-few c n e =
-    subst (λ (k : ℕ). (1 ≤ k) × (k ≤ 2)) (sym e)
-    (of-cond (λ (k : ℕ). (1 ≤ k) × (k ≤ 2)) (isLong c) (λ t. (omega arith, omega arith)) (λ t. (omega arith, omega arith)))
 
 -- a step keeps the widths
 pub step-keeps : (n : ℕ) (s : State) (b : Bounds) (p w place : ℕ) → p < 131072 → Kept n s → KeptAfter n (stepOf s b p w place)

@@ -19,6 +19,7 @@ use Rattle.central.specs.Laws.Step.{Later, step-keeps, step-reaches}
 use Rattle.central.specs.declared.address.Bounds.{Bounds}
 use Rattle.central.specs.declared.address.Place.{Place}
 use Rattle.central.specs.declared.apply.Step.{Step}
+use Rattle.central.specs.declared.turn.TurnEnd.{TurnEnd}
 
 -- the state of the loop: what is left to run gives what the whole word gives
 pub record Going (b : Bounds) (p w : ℕ) (s₀ s : State) (place : ℕ) : Type 0 where
@@ -46,46 +47,41 @@ module _ (b : Bounds) (p w : ℕ) (room : b .fl ≤ 131072) (inside : p < b .fl)
   pub going-end : 4 ≤ place → turned s (turnEnd (p + 1) 0) ≡ wordRun b p w s₀
   going-end h = run-end b p w s (g .most) place h ∙ g .is
 
-  module _ (h : place < 4) (a : After) (e : a ≡ stepOf s b p w place) where
+  -- the step that follows is o
+  module _ (h : place < 4) (a : After) (e : a ≡ stepOf s b p w place) (o : Step) (i : a .step ≡ o) where
     stepped : (most : ℕ) → 4 ≤ place + most → parcelsRun most b p w s place ≡ wordRun b p w s₀
-        → (fewer : ℕ) × ((most ≡ suc fewer) × (goOn p (parcelsRun fewer b p w) (a .state) (a .step) ≡ wordRun b p w s₀))
-    stepped zero l i = absurd (omega arith)
-    stepped (suc fewer) l i = (
-      fewer,
-      (
-        refl,
-        (ap (λ (x : After). goOn p (parcelsRun fewer b p w) (x .state) (x .step)) e ∙ sym (run-step b p w s fewer place h) ∙ i),
-      ),
-    )
+        → (fewer : ℕ) × ((most ≡ suc fewer) × (goOn p (parcelsRun fewer b p w) (a .state) o ≡ wordRun b p w s₀))
+    stepped zero l r = absurd (omega arith)
+    stepped (suc fewer) l r =
+        let rest : State → ℕ → Turn = parcelsRun fewer b p w in
+        let by-step = sym (ap (goOn p rest (a .state)) i) ∙ ap (λ (x : After). goOn p rest (x .state) (x .step)) e in
+        (fewer, (refl, by-step ∙ sym (run-step b p w s fewer place h) ∙ r))
 
-    later : Later place (a .step)
+    later : Later place o
     later =
-        subst (λ (x : After). Later place (x .step)) (sym e)
-        (step-reaches (b .fl) s b p w place (omega arith) room (g .kept))
+        subst (Later place) i
+        (subst (λ (x : After). Later place (x .step)) (sym e)
+        (step-reaches (b .fl) s b p w place (omega arith) room (g .kept)))
 
-    pub going-on : (next : ℕ) → a .step ≡ Then.Next next → (place < next) × Going b p w s₀ (a .state) next
-    going-on next i =
-        let o = stepped (g .most) (g .enough) (g .is) in
-        let l : place < next = subst (Later place) i later in
-        let m : g .most ≡ suc (o .0) = o .1 .0 in (
-          l,
-          record {
-            kept = subst (KeptAfter (b .fl)) (sym e) (step-keeps (b .fl) s b p w place (omega arith) (g .kept));
-            most = o .0;
-            enough = omega (arith, g .enough);
-            is = sym (ap (goOn p (parcelsRun (o .0) b p w) (a .state)) i) ∙ o .1 .1;
-          },
-        )
+    -- where nothing of the word is run after the step
+    pub going-out : (t : TurnEnd) → ((rest : State → ℕ → Turn) → goOn p rest (a .state) o ≡ turned (a .state) t)
+        → turned (a .state) t ≡ wordRun b p w s₀
+    going-out t ends = sym (ends _) ∙ stepped (g .most) (g .enough) (g .is) .1 .1
 
-    pub going-branch : (target : ℕ) → a .step ≡ Then.Branch target → turned (a .state) (turnEnd target 0) ≡ wordRun b p w s₀
-    going-branch target i =
-        let o = stepped (g .most) (g .enough) (g .is) in
-        sym (ap (goOn p (parcelsRun (o .0) b p w) (a .state)) i) ∙ o .1 .1
-
-    pub going-stop : (c : CentralStop) → a .step ≡ Then.Stop c → turned (a .state) (turnEnd p (centralStopNumber c)) ≡ wordRun b p w s₀
-    going-stop c i =
-        let o = stepped (g .most) (g .enough) (g .is) in
-        sym (ap (goOn p (parcelsRun (o .0) b p w) (a .state)) i) ∙ o .1 .1
+  pub going-on : (h : place < 4) (a : After) (e : a ≡ stepOf s b p w place) (next : ℕ) → a .step ≡ Then.Next next
+      → (place < next) × Going b p w s₀ (a .state) next
+  going-on h a e next i =
+      let o = stepped h a e (Then.Next next) i (g .most) (g .enough) (g .is) in
+      let l : place < next = later h a e (Then.Next next) i in
+      let m : g .most ≡ suc (o .0) = o .1 .0 in (
+        l,
+        record {
+          kept = subst (KeptAfter (b .fl)) (sym e) (step-keeps (b .fl) s b p w place (omega arith) (g .kept));
+          most = o .0;
+          enough = omega (arith, g .enough);
+          is = o .1 .1;
+        },
+      )
 
 -- what a turn leaves: the widths, a P of 18 bits, and a stop's number or 0
 pub record Left (n : ℕ) (t : Turn) : Type 0 where

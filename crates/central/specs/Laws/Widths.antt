@@ -1,63 +1,32 @@
 -- Effects keep the widths of registers and field, the field's length, and B0. Assumes nothing.
 use mathlib.Core.Bool.{Bool, true, false, cond}
-use mathlib.Core.List.{List, [], _∷_}
+use mathlib.Core.List.{List}
 use mathlib.Core.Path.{_≡_, refl, _∙_}
-use Prim.Native.Nat.{ℕ, zero, suc, _+_, _^_, _<_}
+use Prim.Native.Nat.{ℕ, _+_, _^_, _<_}
 use native.Mathlib.Omega.{arith}
-use borrow.Author.Tests.{eqb-false, ltb-true}
+use borrow.Author.Tests.{ltb-true}
 use lib.Dec.{eqb, ltb, lit<}
-use lib.ListN.{getD, set, length-set}
-use lib.Seq.{getD-set-other}
+use lib.ListN.{set, length-set}
 use Rattle.word.specs.Laws.Choice.{of-cond}
+use Rattle.instruction.specs.Registers.{setA}
+use Rattle.instruction.specs.Widths.{Wide, Sound}
+use Rattle.instruction.specs.Laws.Widths.{set-has, short-set, x-set, b-set}
+use Rattle.instruction.specs.declared.effect.Effect.{Effect}
+use Rattle.instruction.specs.declared.effect.Effect.the-variants.{Pass, Stop, Jump, ReturnJump, SetA, SetB, SetX, SetXB}
 use Rattle.central.specs.State.{State, state}
-use Rattle.central.specs.Registers.{setA, setB, setX}
 use Rattle.central.specs.Address.{placeOf, relative, Within}
 use Rattle.central.specs.Apply.{After, stopsOutside, referred, aSet, storedAt, returnJumped, applied}
-use Rattle.central.specs.Widths.{Wide, Words, Kept, Sound}
+use Rattle.central.specs.Widths.{Words, Kept}
 use Rattle.central.specs.declared.address.Bounds.{Bounds}
 use Rattle.central.specs.declared.address.Relative.{Relative}
 use Rattle.central.specs.declared.address.Absolute.{Absolute}
 use Rattle.central.specs.declared.address.Place.{Place}
 use Rattle.central.specs.declared.address.Place.the-variants.{Inside, Outside}
-use Rattle.central.specs.declared.effect.Effect.{Effect}
-use Rattle.central.specs.declared.effect.Effect.the-variants.{Pass, Stop, Jump, ReturnJump, SetA, SetB, SetX, SetXB}
 
 pub place-within : (b : Bounds) (a : Relative) → Within b (placeOf b a)
 unfolding placeOf
 place-within b a =
     of-cond (Within b) (ltb (a .0) (b .fl)) (λ e. let h = ltb-true (a .0) (b .fl) e in (omega arith, omega arith)) (λ e. tt)
-
--- what a stored value has, and what was there, the list has after the store
-set-has : (P : ℕ → Type 0) (l : List ℕ) (i j v : ℕ) → P v → P (getD l j 0) → P (getD (set l i v) j 0)
-set-has P [] i j v p q = q
-set-has P (x ∷ l) zero zero v p q = p
-set-has P (x ∷ l) zero (suc j) v p q = q
-set-has P (x ∷ l) (suc i) zero v p q = q
-set-has P (x ∷ l) (suc i) (suc j) v p q = set-has P l i j v p q
-
--- a register of 18 bits other than B0, and an X register
-short-set : (r : List ℕ) (i v : ℕ) → (8 ≡ i → ⊥) → v < 2 ^ 18 → Wide r → Wide (set r i v)
-short-set r i v n h w =
-    record {
-      count = length-set r i v ∙ w .count;
-      short = λ j l. set-has (λ (x : ℕ). x < 2 ^ 18) r i j v h (w .short j l);
-      long = λ j. set-has (λ (x : ℕ). x < 2 ^ 60) r i j v (omega arith) (w .long j);
-      b0 = getD-set-other r i 8 v 0 n ∙ w .b0;
-    }
-
-x-set : (r : List ℕ) (i v : ℕ) → v < 2 ^ 60 → Wide r → Wide (setX r i v)
-x-set r i v h w =
-    record {
-      count = length-set r (16 + i) v ∙ w .count;
-      short = λ j l. rw (getD-set-other r (16 + i) j v 0 (λ e. omega arith)) (w .short j l);
-      long = λ j. set-has (λ (x : ℕ). x < 2 ^ 60) r (16 + i) j v h (w .long j);
-      b0 = getD-set-other r (16 + i) 8 v 0 (λ e. omega arith) ∙ w .b0;
-    }
-
-b-set : (r : List ℕ) (i v : ℕ) → v < 2 ^ 18 → Wide r → Wide (setB r i v)
-unfolding setB
-b-set r i v h w =
-    of-cond Wide (eqb i 0) (λ e. w) (λ e. short-set r (8 + i) v (λ z. eqb-false i 0 e (omega arith)) h w)
 
 word-set : (f : List ℕ) (i v : ℕ) → v < 2 ^ 60 → Words f → Words (set f i v)
 word-set f i v h w = record { word = λ j. set-has (λ (x : ℕ). x < 2 ^ 60) f i j v h (w .word j) }

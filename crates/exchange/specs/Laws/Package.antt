@@ -14,9 +14,10 @@ use lib.Seq.{ext-getD}
 use Rattle.word.specs.Bits.{bits}
 use Rattle.word.specs.Laws.Bits.{bits-lt}
 use Rattle.word.specs.Laws.Choice.{of-getD, le-or-lt}
+use Rattle.instruction.specs.Registers.{aOf, bOf, xOf}
 use Rattle.exchange.specs.declared.record.Central.{Central}
 use Rattle.exchange.specs.Indexed.{all, tabulate}
-use Rattle.exchange.specs.Record.{aOf, bOf, xOf, emFits, registerWidth, recordFits, running, FitsPackage}
+use Rattle.exchange.specs.Record.{emFits, registerWidth, recordFits, running, FitsPackage}
 use Rattle.exchange.specs.Package.{controls, packageWord, coded, registerIn, controlIn, decoded, bitsInUse, wordHasNoStray, hasStray}
 use Rattle.exchange.specs.Laws.Indexed.{both, all-at, all-of, length-tabulate, getD-tabulate}
 use Rattle.exchange.specs.Laws.Record.{each-register, em-width, a-width, b-width, x-width, of-fits}
@@ -56,11 +57,11 @@ module _ (c : Central) where
   unfolding coded
   word-coded n h = getD-tabulate (packageWord c) 16 n h
 
-  pub lower-word : (n : ℕ) → n < 8 → getD (coded c) n 0 ≡ getD (controls c) n 0 * 2 ^ 36 + aOf c n * 2 ^ 18 + bOf c n
+  pub lower-word : (n : ℕ) → n < 8 → getD (coded c) n 0 ≡ getD (controls c) n 0 * 2 ^ 36 + aOf (c .registers) n * 2 ^ 18 + bOf (c .registers) n
   unfolding packageWord
   lower-word n h = word-coded n (omega arith) ∙ rw (lt-ltb n 8 h)
 
-  pub upper-word : (n : ℕ) → n < 8 → getD (coded c) (8 + n) 0 ≡ xOf c n
+  pub upper-word : (n : ℕ) → n < 8 → getD (coded c) (8 + n) 0 ≡ xOf (c .registers) n
   unfolding packageWord
   upper-word n h = word-coded (8 + n) (omega arith) ∙ rw (le-ltb (8 + n) 8 (omega arith), add-sub-cancel-left)
 
@@ -70,21 +71,21 @@ module _ (c : Central) (w : FitsPackage c) where
     control-back : controlIn (coded c) n ≡ getD (controls c) n 0
     control-back =
         rw (lower-word c n h)
-        (upper-field (getD (controls c) n 0) (aOf c n) (bOf c n) (control-width c w n) (a-width c w n h) (b-width c w n h))
+        (upper-field (getD (controls c) n 0) (aOf (c .registers) n) (bOf (c .registers) n) (control-width c w n) (a-width c w n h) (b-width c w n h))
 
-    a-back : registerIn (coded c) n ≡ aOf c n
+    a-back : registerIn (coded c) n ≡ aOf (c .registers) n
     unfolding registerIn
     a-back =
         rw (lt-ltb n 8 h, lower-word c n h)
-        (middle-field (getD (controls c) n 0) (aOf c n) (bOf c n) (control-width c w n) (a-width c w n h) (b-width c w n h))
+        (middle-field (getD (controls c) n 0) (aOf (c .registers) n) (bOf (c .registers) n) (control-width c w n) (a-width c w n h) (b-width c w n h))
 
-    b-back : registerIn (coded c) (8 + n) ≡ bOf c n
+    b-back : registerIn (coded c) (8 + n) ≡ bOf (c .registers) n
     unfolding registerIn
     b-back =
         rw (le-ltb (8 + n) 8 (omega arith), lt-ltb (8 + n) 16 (omega arith), add-sub-cancel-left, lower-word c n h)
-        (lower-field (getD (controls c) n 0) (aOf c n) (bOf c n) (control-width c w n) (a-width c w n h) (b-width c w n h))
+        (lower-field (getD (controls c) n 0) (aOf (c .registers) n) (bOf (c .registers) n) (control-width c w n) (a-width c w n h) (b-width c w n h))
 
-    x-back : registerIn (coded c) (16 + n) ≡ xOf c n
+    x-back : registerIn (coded c) (16 + n) ≡ xOf (c .registers) n
     unfolding registerIn
     x-back =
         let e : 16 + n - 8 ≡ 8 + n = omega arith in
@@ -155,17 +156,17 @@ module _ (w : List ℕ) where
   register-decoded i h = getD-tabulate (registerIn w) 24 i h
 
   module _ (n : ℕ) (h : n < 8) where
-    pub a-decoded : aOf (decoded w) n ≡ bits (getD w n 0) 18 18
+    pub a-decoded : aOf (decoded w .registers) n ≡ bits (getD w n 0) 18 18
     unfolding registerIn
     a-decoded = register-decoded n (omega arith) ∙ rw (lt-ltb n 8 h)
 
-    pub b-decoded : bOf (decoded w) n ≡ bits (getD w n 0) 0 18
+    pub b-decoded : bOf (decoded w .registers) n ≡ bits (getD w n 0) 0 18
     unfolding registerIn
     b-decoded =
         register-decoded (8 + n) (omega arith)
         ∙ rw (le-ltb (8 + n) 8 (omega arith), lt-ltb (8 + n) 16 (omega arith), add-sub-cancel-left)
 
-    pub x-decoded : xOf (decoded w) n ≡ getD w (8 + n) 0
+    pub x-decoded : xOf (decoded w .registers) n ≡ getD w (8 + n) 0
     unfolding registerIn
     x-decoded =
         let e : 16 + n - 8 ≡ 8 + n = omega arith in

@@ -10,8 +10,9 @@ use lib.Dec.{ltb, leb, eqb, lit<}
 use lib.ListN.{length, getD, List·getD-eq-default}
 use Rattle.word.specs.Bits.{bits}
 use Rattle.word.specs.Laws.Choice.{le-or-lt}
+use Rattle.instruction.specs.Registers.{aOf, bOf, xOf}
 use Rattle.exchange.specs.declared.record.Central.{Central}
-use Rattle.exchange.specs.Record.{aOf, bOf, xOf, emFits, registerWidth, registerFits, registersFit, recordFits, FitsPackage, wordFits, wordsFit}
+use Rattle.exchange.specs.Record.{emFits, registerWidth, registerFits, registersFit, recordFits, FitsPackage, wordFits, wordsFit}
 use Rattle.exchange.specs.Laws.Indexed.{both, all-at, all-of}
 
 -- what holds of the places of A, of B and of X holds of each of the 24 places
@@ -35,13 +36,13 @@ pub em-width : (em : ℕ) → emFits em ≡ true → em < 2 ^ 18
 em-width em h = omega (arith, em-bits em h)
 
 module _ (c : Central) (w : FitsPackage c) where
-  pub a-width : (n : ℕ) → n < 8 → aOf c n < 2 ^ 18
+  pub a-width : (n : ℕ) → n < 8 → aOf (c .registers) n < 2 ^ 18
   a-width n h = rw (lt-ltb n 16 (omega arith)) at (w .register-width n (omega arith))
 
-  pub b-width : (n : ℕ) → n < 8 → bOf c n < 2 ^ 18
+  pub b-width : (n : ℕ) → n < 8 → bOf (c .registers) n < 2 ^ 18
   b-width n h = rw (lt-ltb (8 + n) 16 (omega arith)) at (w .register-width (8 + n) (omega arith))
 
-  pub x-width : (n : ℕ) → n < 8 → xOf c n < 2 ^ 60
+  pub x-width : (n : ℕ) → n < 8 → xOf (c .registers) n < 2 ^ 60
   x-width n h = rw (le-ltb (16 + n) 16 (omega arith)) at (w .register-width (16 + n) (omega arith))
 
 -- what number 5 lets by
@@ -55,7 +56,7 @@ unfolding recordFits registersFit
 fits n c h =
     let h₇ = both _ (registersFit (c .registers)) h in
     let h₆ = both _ (emFits (c .em)) (h₇ .0) in
-    let h₅ = both _ (eqb (bOf c 0) 0) (h₆ .0) in
+    let h₅ = both _ (eqb (bOf (c .registers) 0) 0) (h₆ .0) in
     let h₄ = both _ (leb (c .stop) 5) (h₅ .0) in
     let h₃ = both _ (leb (c .ra + c .fl) n) (h₄ .0) in
     let h₂ = both (ltb (c .p) (2 ^ 18) && ltb (c .ra) (2 ^ 18)) (ltb (c .fl) (2 ^ 18)) (h₃ .0) in
@@ -69,7 +70,7 @@ fits n c h =
             em-fits = h₆ .1;
             register-width =
                 λ i l. ltb-true (getD (c .registers) i 0) (2 ^ registerWidth i) (all-at (registerFits (c .registers)) 24 (h₇ .1) i l);
-            b0-zero = eqb-true (bOf c 0) 0 (h₅ .1);
+            b0-zero = eqb-true (bOf (c .registers) 0) 0 (h₅ .1);
           };
       field = leb-true (c .ra + c .fl) n (h₃ .1);
       stop = leb-true (c .stop) 5 (h₄ .1);
@@ -85,7 +86,7 @@ of-fits n c f =
       lt-ltb (c .fl) (2 ^ 18) (w .fl-width),
       le-leb (c .ra + c .fl) n (f .field),
       le-leb (c .stop) 5 (f .stop),
-      eq-eqb (bOf c 0) 0 (w .b0-zero),
+      eq-eqb (bOf (c .registers) 0) 0 (w .b0-zero),
       w .em-fits,
     )
     (all-of (registerFits (c .registers)) 24 (λ i l. lt-ltb (getD (c .registers) i 0) (2 ^ registerWidth i) (w .register-width i l)))

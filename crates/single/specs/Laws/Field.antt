@@ -8,7 +8,7 @@ use borrow.Author.Tests.{lt-ltb, le-ltb}
 use lib.ListN.{length, getD, List·getD-eq-default}
 use lib.Dec.{lit<}
 use Rattle.word.specs.Laws.Choice.{le-or-lt}
-use Rattle.central.specs.Widths as Central
+use Rattle.instruction.specs.Widths.{Wide}
 use Rattle.central.specs.State.{state}
 use Rattle.central.specs.Turn.{Run}
 use Rattle.central.specs.Widths.{Kept}
@@ -32,10 +32,10 @@ module _ (c : Central) (w : FitsPackage c) (count : length (c .registers) ≡ 24
       (λ h. ⊎-elim (λ k. rw (le-ltb i 16 k) at (w .register-width i h)) (λ k. omega (arith, short i k)) (le-or-lt 16 i))
       (le-or-lt 24 i)
 
-  pub registers-wide : Central.Wide (c .registers)
+  pub registers-wide : Wide (c .registers)
   registers-wide = record { count = count; short = short; long = long; b0 = w .b0-zero }
 
-pub register-width : (r : List ℕ) → Central.Wide r → (i : ℕ) → getD r i 0 < 2 ^ registerWidth i
+pub register-width : (r : List ℕ) → Wide r → (i : ℕ) → getD r i 0 < 2 ^ registerWidth i
 register-width r w i =
     ⊎-elim (λ h. rw (le-ltb i 16 h) (w .long i)) (λ h. rw (lt-ltb i 16 h) (w .short i h)) (le-or-lt 16 i)
 

@@ -2,8 +2,8 @@
 use mathlib.Core.Path.{subst}
 use borrow.Author.Needs.{needs}
 use Rattle.central.proofs.apply.apply.Tie as tie
+use Rattle.instruction.specs.Widths.{Sound}
 use Rattle.central.specs.Apply.{applied}
-use Rattle.central.specs.Widths.{Sound}
 use Rattle.central.proofs.apply.apply.Statement.{statement}
 
 enum-told : tie.Need-enum-told

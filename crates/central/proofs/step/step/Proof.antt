@@ -4,8 +4,9 @@ use Prim.Native.Nat.{ℕ, _+_}
 use native.Mathlib.Omega.{arith}
 use borrow.Author.Needs.{needs}
 use Rattle.central.proofs.step.step.Tie as tie
-use Rattle.central.specs.Laws.Effects.{decoded-fits, effect-sound}
-use Rattle.central.specs.Laws.Step.{ran-unfit, ran-cut, ran-whole, parcels-few}
+use Rattle.instruction.specs.Laws.Effects.{decoded-fits, effect-sound}
+use Rattle.instruction.specs.Laws.Codes.{parcels-few}
+use Rattle.central.specs.Laws.Step.{ran-unfit, ran-cut, ran-whole}
 use Rattle.central.proofs.step.step.Statement.{statement}
 
 decode-requires : tie.Need-decode-requires

@@ -1,11 +1,11 @@
 -- `central::turn::run_word` meets its contract. Assumes nothing.
-use mathlib.Core.Path.{_∙_, sym}
+use mathlib.Core.Path.{_∙_, refl, sym}
 use Prim.Native.Nat.{_-_}
 use native.Mathlib.Omega.{arith}
 use borrow.Author.Needs.{needs}
 use Rattle.central.proofs.turn.run_word.Tie as tie
 use Rattle.central.specs.State.{state}
-use Rattle.central.specs.Laws.Turn.{Going, going-start, going-on, going-branch, going-stop, going-end}
+use Rattle.central.specs.Laws.Turn.{Going, going-start, going-on, going-out, going-end}
 use Rattle.central.proofs.turn.run_word.Statement.{statement}
 
 abbrev Inv-loop : tie.InvT-loop
@@ -62,7 +62,7 @@ returns c =
     let loop-test = c .before .before .before .before .before .before .before .before .loop-test in
     let step = c .before .before .before .before .before .step in
     let target = c .before .target in
-    going-branch _ _ _ (omega (arith, pre .1 .0)) (pre .1 .1) _ _ _ (loop .inv) (loop-test .taken) _ (step .ensures) _ (target .given .1)
+    going-out _ _ _ (omega (arith, pre .1 .0)) (pre .1 .1) _ _ _ (loop .inv) (loop-test .taken) _ (step .ensures) _ (target .given .1) _ (λ rest. refl)
 
 enum-known-s : tie.Need-enum-known-s Inv-loop μ-loop
 enum-known-s c = search needs
@@ -85,7 +85,7 @@ returns-2 c =
     let step = c .before .before .before .before .before .before .step in
     let s = c .before .before .s in
     rw (c .number .ensures)
-    (going-stop _ _ _ (omega (arith, pre .1 .0)) (pre .1 .1) _ _ _ (loop .inv) (loop-test .taken) _ (step .ensures) _ (s .given .1))
+    (going-out _ _ _ (omega (arith, pre .1 .0)) (pre .1 .1) _ _ _ (loop .inv) (loop-test .taken) _ (step .ensures) _ (s .given .1) _ (λ rest. refl))
 
 add-t16 : tie.Need-add-t16 Inv-loop μ-loop
 add-t16 c = omega (arith, c .before .before .before .pre .1)

@@ -2,7 +2,7 @@
 use borrow.Author.Tests.{lt-ltb, le-ltb}
 use borrow.Author.Needs.{needs}
 use lib.ListN.{getD}
-use Rattle.exchange.specs.Record.{aOf, bOf}
+use Rattle.instruction.specs.Registers.{aOf, bOf}
 use Rattle.exchange.specs.Package.{controls, packageWord}
 use Rattle.exchange.specs.Laws.Record.{a-width, b-width}
 use Rattle.exchange.specs.Laws.Package.{control-width}
@@ -39,7 +39,7 @@ returns c =
       lt-ltb n 8 h,
       c .before .before .control .ensures,
     )
-    (three-fields (getD (controls r) n 0) (aOf r n) (bOf r n) (control-width r w n) (a-width r w n h) (b-width r w n h))
+    (three-fields (getD (controls r) n 0) (aOf (r .registers) n) (bOf (r .registers) n) (control-width r w n) (a-width r w n h) (b-width r w n h))
 
 add-result : tie.Need-add-result
 add-result c = search needs

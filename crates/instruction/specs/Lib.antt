@@ -1,0 +1,7 @@
+-- The definitions that the contracts of `instruction` cite. A reader has to believe these, but for `Widths`, which only says what the
+-- functions ask for; `Laws` is proved from them.
+pub mod Registers
+pub mod Instruction
+pub mod Effects
+pub mod Widths
+pub mod Laws
