@@ -3,7 +3,7 @@ use mathlib.Core.Bool.{Bool, true, false, _&&_, and-false}
 use mathlib.Core.List.{List, [], _∷_, _++_}
 use mathlib.Core.Logic.{⊎-elim}
 use mathlib.Core.Path.{_≡_, refl, sym, ap, _∙_}
-use Prim.Native.Nat.{ℕ, zero, suc, _+_, _<_}
+use Prim.Native.Nat.{ℕ, zero, suc, _+_, _≤_, _<_}
 use native.Mathlib.Numerals.{add-one}
 use native.Mathlib.Omega.{arith}
 use lib.ListN.{length, getD, set, take, length-append, List·getD-append}
@@ -42,6 +42,25 @@ module _ (test : ℕ → Bool) where
       (λ g. let s : n ≡ i = omega arith in rw (s, e) (and-false (all i test)))
       (λ g. rw (all-not n i g e))
       (le-or-lt n i)
+
+-- a loop that tests every number below n, and leaves at the first that fails: the first i of n have passed
+pub record Passed (test : ℕ → Bool) (n i : ℕ) : Type 0 where
+  pub most : i ≤ n
+  pub passed : all i test ≡ true
+
+module _ (test : ℕ → Bool) (n : ℕ) where
+  pub none-yet : Passed test n 0
+  unfolding all
+  none-yet = record { most = omega arith; passed = refl }
+
+  pub one-more : (i : ℕ) → Passed test n i → i < n → test i ≡ true → Passed test n (i + 1)
+  one-more i p l e = record { most = omega arith; passed = all-more test i (p .passed) e }
+
+  pub all-passed : (i : ℕ) → Passed test n i → n ≤ i → true ≡ all n test
+  all-passed i p l = let e : i ≡ n = omega arith in sym (rw e at (p .passed))
+
+  pub one-fails : (i : ℕ) → i < n → test i ≡ false → false ≡ all n test
+  one-fails i l e = sym (all-not test n i l e)
 
 module _ (entry : ℕ → ℕ) where
   pub length-tabulate : (n : ℕ) → length (tabulate n entry) ≡ n

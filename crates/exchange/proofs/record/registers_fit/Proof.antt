@@ -1,26 +1,22 @@
 -- `exchange::record::registers_fit` meets its contract. Assumes nothing.
-use mathlib.Core.Bool.{true}
-use mathlib.Core.Path.{_≡_, refl, sym}
 use Prim.Native.Nat.{_≤_, _<_, _-_, _^_}
 use native.Mathlib.Omega.{arith}
 use borrow.Author.Needs.{needs}
 use borrow.Author.Tests.{lt-ltb, le-ltb}
 use lib.ListN.{getD}
-use Rattle.exchange.specs.Indexed.{all}
 use Rattle.exchange.specs.Record.{registerWidth, registerFits, registersFit}
-use Rattle.exchange.specs.Laws.Indexed.{all-more, all-not}
+use Rattle.exchange.specs.Laws.Indexed.{Passed, none-yet, one-more, all-passed, one-fails}
 use Rattle.exchange.proofs.record.registers_fit.Statement.{statement}
 use Rattle.exchange.proofs.record.registers_fit.Tie as tie
 
 abbrev Inv-loop : tie.InvT-loop
-Inv-loop registers i₀ i = (i ≤ 24) × (all i (registerFits registers) ≡ true)
+Inv-loop registers i₀ i = Passed (registerFits registers) 24 i
 
 abbrev μ-loop : tie.MeasureT-loop
 μ-loop registers i₀ i = 24 - i
 
 loop-holds : tie.Need-loop-holds Inv-loop μ-loop
-unfolding all
-loop-holds c = (omega arith, refl)
+loop-holds c = none-yet _ _
 
 register-limit-requires : tie.Need-register-limit-requires Inv-loop μ-loop
 register-limit-requires c κs = search needs
@@ -37,7 +33,7 @@ returns c =
     let r = c .before .before .before .before .args .t1 in
     let i = c .before .before .before .loop .i in
     let wide : 2 ^ registerWidth i ≤ getD r i 0 = rw (c .before .register-limit .ensures) at (c .if1 .taken) in
-    sym (all-not (registerFits r) 24 i (c .before .before .loop-test .taken) (le-ltb (getD r i 0) (2 ^ registerWidth i) wide))
+    one-fails (registerFits r) 24 i (c .before .before .loop-test .taken) (le-ltb (getD r i 0) (2 ^ registerWidth i) wide)
 
 add-i : tie.Need-add-i Inv-loop μ-loop
 add-i c = omega arith
@@ -49,16 +45,12 @@ loop-again : tie.Need-loop-again Inv-loop μ-loop
 loop-again c =
     let r = c .before .before .before .before .args .t1 in
     let i = c .before .before .before .loop .i in
-    let fits : getD r i 0 < 2 ^ registerWidth i = rw (c .before .register-limit .ensures) at (c .if1 .left) in (
-      omega arith,
-      all-more (registerFits r) i (c .before .before .before .loop .inv .1) (lt-ltb (getD r i 0) (2 ^ registerWidth i) fits),
-    )
+    let fits : getD r i 0 < 2 ^ registerWidth i = rw (c .before .register-limit .ensures) at (c .if1 .left) in
+    one-more (registerFits r) 24 i (c .before .before .before .loop .inv) (c .before .before .loop-test .taken) (lt-ltb (getD r i 0) (2 ^ registerWidth i) fits)
 
 returns-2 : tie.Need-returns-2 Inv-loop μ-loop
 unfolding registersFit
-returns-2 c =
-    let e : c .before .loop .i ≡ 24 = omega arith in
-    sym (rw e at (c .before .loop .inv .1))
+returns-2 c = all-passed _ _ _ (c .before .loop .inv) (c .loop-test .left)
 
 pub registers-fit-spec : {M : Type 1} → statement M
 registers-fit-spec =

@@ -1,26 +1,22 @@
 -- `exchange::record::words_fit` meets its contract. Assumes nothing.
-use mathlib.Core.Bool.{true}
-use mathlib.Core.Path.{_≡_, refl, sym}
-use Prim.Native.Nat.{_≤_, _-_, _^_}
+use Prim.Native.Nat.{_-_, _^_}
 use native.Mathlib.Omega.{arith}
 use borrow.Author.Needs.{needs}
 use borrow.Author.Tests.{lt-ltb, le-ltb}
 use lib.ListN.{getD, length}
-use Rattle.exchange.specs.Indexed.{all}
 use Rattle.exchange.specs.Record.{wordFits, wordsFit}
-use Rattle.exchange.specs.Laws.Indexed.{all-more, all-not}
+use Rattle.exchange.specs.Laws.Indexed.{Passed, none-yet, one-more, all-passed, one-fails}
 use Rattle.exchange.proofs.record.words_fit.Statement.{statement}
 use Rattle.exchange.proofs.record.words_fit.Tie as tie
 
 abbrev Inv-loop : tie.InvT-loop
-Inv-loop m i₀ i = (i ≤ length m) × (all i (wordFits m) ≡ true)
+Inv-loop m i₀ i = Passed (wordFits m) (length m) i
 
 abbrev μ-loop : tie.MeasureT-loop
 μ-loop m i₀ i = length m - i
 
 loop-holds : tie.Need-loop-holds Inv-loop μ-loop
-unfolding all
-loop-holds c = (omega arith, refl)
+loop-holds c = none-yet _ _
 
 mul-if1 : tie.Need-mul-if1 Inv-loop μ-loop
 mul-if1 c = search needs
@@ -33,7 +29,7 @@ unfolding wordsFit
 returns c =
     let m = c .before .before .before .before .args .m .now in
     let i = c .before .before .before .loop .i in
-    sym (all-not (wordFits m) (length m) i (c .before .before .loop-test .taken) (le-ltb (getD m i 0) (2 ^ 60) (omega arith)))
+    one-fails (wordFits m) (length m) i (c .before .before .loop-test .taken) (le-ltb (getD m i 0) (2 ^ 60) (omega arith))
 
 add-i : tie.Need-add-i Inv-loop μ-loop
 add-i c = omega arith
@@ -45,14 +41,11 @@ loop-again : tie.Need-loop-again Inv-loop μ-loop
 loop-again c =
     let m = c .before .before .before .before .args .m .now in
     let i = c .before .before .before .loop .i in
-    (omega arith, all-more (wordFits m) i (c .before .before .before .loop .inv .1) (lt-ltb (getD m i 0) (2 ^ 60) (omega arith)))
+    one-more (wordFits m) (length m) i (c .before .before .before .loop .inv) (c .before .before .loop-test .taken) (lt-ltb (getD m i 0) (2 ^ 60) (omega arith))
 
 returns-2 : tie.Need-returns-2 Inv-loop μ-loop
 unfolding wordsFit
-returns-2 c =
-    let m = c .before .before .args .m .now in
-    let e : c .before .loop .i ≡ length m = omega arith in
-    sym (rw e at (c .before .loop .inv .1))
+returns-2 c = all-passed _ _ _ (c .before .loop .inv) (c .loop-test .left)
 
 pub words-fit-spec : {M : Type 1} → statement M
 words-fit-spec =

@@ -5,8 +5,8 @@ use borrow.Author.Needs.{needs}
 use borrow.Author.Tests.{lt-ltb, le-ltb}
 use lib.Dec.{ltb}
 use lib.ListN.{length, getD}
+use Rattle.exchange.specs.Laws.Indexed.{Passed, none-yet, one-more, all-passed, one-fails}
 use Rattle.schedule.specs.Refusals.{jobsListed}
-use Rattle.shared.specs.Laws.Tests.{Passed, none-yet, one-more, all-passed, one-fails}
 use Rattle.shared.proofs.lists.jobs_listed.Statement.{statement}
 use Rattle.shared.proofs.lists.jobs_listed.Tie as tie
 

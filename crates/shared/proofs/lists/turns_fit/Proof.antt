@@ -5,8 +5,8 @@ use borrow.Author.Needs.{needs}
 use borrow.Author.Tests.{le-leb, lt-leb}
 use lib.Dec.{leb}
 use lib.ListN.{length, getD}
+use Rattle.exchange.specs.Laws.Indexed.{Passed, none-yet, one-more, all-passed, one-fails}
 use Rattle.schedule.specs.Refusals.{turnsFit}
-use Rattle.shared.specs.Laws.Tests.{Passed, none-yet, one-more, all-passed, one-fails}
 use Rattle.shared.proofs.lists.turns_fit.Statement.{statement}
 use Rattle.shared.proofs.lists.turns_fit.Tie as tie
 

@@ -2,8 +2,9 @@
 use Prim.Native.Nat.{_-_}
 use native.Mathlib.Omega.{arith}
 use lib.ListN.{length}
+use Rattle.exchange.specs.Laws.Indexed.{Passed, none-yet, one-more, all-passed, one-fails}
 use Rattle.schedule.specs.Refusals.{jobsApart}
-use Rattle.shared.specs.Laws.Tests.{Passed, none-yet, one-more, all-passed, one-fails, holds, fails}
+use Rattle.shared.specs.Laws.Tests.{holds, fails}
 use Rattle.shared.proofs.owners.apart_from_all.Statement.{statement}
 use Rattle.shared.proofs.owners.apart_from_all.Tie as tie
 

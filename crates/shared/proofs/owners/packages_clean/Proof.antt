@@ -5,9 +5,9 @@ use Prim.Native.Nat.{_-_}
 use native.Mathlib.Omega.{arith}
 use borrow.Author.Needs.{needs}
 use lib.ListN.{length, getD}
+use Rattle.exchange.specs.Laws.Indexed.{Passed, none-yet, one-more, all-passed, one-fails}
 use Rattle.schedule.specs.Refusals.{packageClean}
 use Rattle.shared.specs.Laws.Owners.{package-inside}
-use Rattle.shared.specs.Laws.Tests.{Passed, none-yet, one-more, all-passed, one-fails}
 use Rattle.shared.proofs.owners.packages_clean.Statement.{statement}
 use Rattle.shared.proofs.owners.packages_clean.Tie as tie
 
