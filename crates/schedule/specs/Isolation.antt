@@ -10,7 +10,7 @@ use Rattle.outcome.specs.declared.refusal.Verdict.the-variants as Call
 use Rattle.exchange.specs.Jump.{recordAt}
 use Rattle.exchange.specs.Memory.{part}
 use Rattle.exchange.specs.declared.record.Central.{Central}
-use Rattle.schedule.specs.Schedule.{Schedule, played}
+use Rattle.schedule.specs.Schedule.{Schedule, scheduleEnd}
 use Rattle.schedule.specs.Refusals.{scheduleVerdict}
 
 -- "it is accepted where no number refuses it"; a record of the host's has 24 registers by its type
@@ -23,7 +23,7 @@ abbrev pub start : Schedule → List ℕ
 start s = s .memory
 
 abbrev pub end : Schedule → List ℕ
-end s = played s .memory
+end s = scheduleEnd s .memory
 
 -- the address of a job's package, and the record there at the start
 abbrev pub packageAddress : Schedule → ℕ → ℕ
@@ -56,7 +56,7 @@ abbrev pub turnsAsked : Schedule → ℕ → ℕ
 turnsAsked s i = sum (ofJob i (s .stintJobs) (s .stintTurns))
 
 abbrev pub turnsMade : Schedule → ℕ → ℕ
-turnsMade s i = sum (ofJob i (s .stintJobs) (played s .turns))
+turnsMade s i = sum (ofJob i (s .stintJobs) (scheduleEnd s .turns))
 
 -- the last entry, or 0 without one
 unfoldable pub lastOf : List ℕ → ℕ
@@ -66,7 +66,7 @@ lastOf (x ∷ y ∷ xs) = lastOf (y ∷ xs)
 
 -- "Its stop is that of its last stint in the list; it has none where that stint gave none or it has no stint." 0 is none.
 abbrev pub stopOf : Schedule → ℕ → ℕ
-stopOf s i = lastOf (ofJob i (s .stintJobs) (played s .stops))
+stopOf s i = lastOf (ofJob i (s .stintJobs) (scheduleEnd s .stops))
 
 -- every entry but the last is 0
 unfoldable pub NoneButLast : List ℕ → Type 0
@@ -76,7 +76,7 @@ NoneButLast (x ∷ y ∷ xs) = (x ≡ 0) × NoneButLast (y ∷ xs)
 
 -- "stopping in no stint but its last"
 abbrev pub StopsInLastOnly : Schedule → ℕ → Type 0
-StopsInLastOnly s i = NoneButLast (ofJob i (s .stintJobs) (played s .stops))
+StopsInLastOnly s i = NoneButLast (ofJob i (s .stintJobs) (scheduleEnd s .stops))
 
 -- "a program alike in package, field and turns asked": "Two packages are alike where they hold the same sixteen words in the same order,
 -- two fields where they hold the same words in the same order."
@@ -115,4 +115,4 @@ RestKept =
 
 -- "A schedule hands the central record back as it was, stop included."
 abbrev pub RecordKept : Type 0
-RecordKept = (s : Schedule) → Accepted s → played s .central ≡ s .central
+RecordKept = (s : Schedule) → Accepted s → scheduleEnd s .central ≡ s .central

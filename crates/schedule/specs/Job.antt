@@ -3,14 +3,13 @@ use mathlib.Core.List.{List, [], _∷_}
 use Prim.Native.Nat.{ℕ}
 use lib.ListN.{getD}
 use Rattle.central.specs.State.{state}
-use Rattle.central.specs.Turn.{Run, turnsOf}
+use Rattle.central.specs.Turn.{Run}
 use Rattle.exchange.specs.Jump.{recordAt}
 use Rattle.exchange.specs.Memory.{part}
 use Rattle.exchange.specs.Package.{coded, decoded}
-use Rattle.exchange.specs.declared.record.Central.{Central}
-use Rattle.single.specs.Field.{boundsOf, recordAfter}
+use Rattle.single.specs.Field.{recordAfter, turnsOn}
 use Rattle.schedule.specs.Isolation.{ofJob}
-use Rattle.schedule.specs.Schedule.{Schedule, Played, played}
+use Rattle.schedule.specs.Schedule.{Schedule, ScheduleEnd, scheduleEnd}
 
 pub record Job : Type 0 where
   pub packageWords : List ℕ
@@ -21,9 +20,6 @@ abbrev pub jobAt : List ℕ → ℕ → Job
 jobAt m at = record { packageWords = part m at 16; fieldWords = part m (recordAt m at .ra) (recordAt m at .fl) }
 
 -- up to n turns of the package's record on the field
-abbrev pub turnsOn : ℕ → Central → List ℕ → Run
-turnsOn n c f = turnsOf n (boundsOf c) (c .p) (state (c .registers) f)
-
 abbrev pub jobRun : ℕ → Job → Run
 jobRun n w = turnsOn n (decoded (w .packageWords)) (w .fieldWords)
 
@@ -32,27 +28,27 @@ abbrev pub jobAfter : Job → Run → Job
 jobAfter w o = record { packageWords = coded (recordAfter (decoded (w .packageWords)) o); fieldWords = o .state .field }
 
 -- the job after a list of stints, and of each the turns made and the stop's number, or 0
-pub record JobPlayed : Type 0 where
+pub record JobEnd : Type 0 where
   pub job : Job
   pub turns : List ℕ
   pub stops : List ℕ
 
-abbrev pub runThen : Run → JobPlayed → JobPlayed
+abbrev pub runThen : Run → JobEnd → JobEnd
 runThen o l = record { job = l .job; turns = o .end .turns ∷ l .turns; stops = o .end .stop ∷ l .stops }
 
 -- stints of so many turns each, one after the other
-unfoldable pub jobStints : List ℕ → Job → JobPlayed
+unfoldable pub jobStints : List ℕ → Job → JobEnd
 jobStints [] w = record { job = w; turns = []; stops = [] }
 jobStints (t ∷ ts) w = runThen (jobRun t w) (jobStints ts (jobAfter w (jobRun t w)))
 
 -- what the stints js of the jobs left of job i
-abbrev pub partOfJob : ℕ → List ℕ → List ℕ → Played → JobPlayed
+abbrev pub partOfJob : ℕ → List ℕ → List ℕ → ScheduleEnd → JobEnd
 partOfJob i jobs js o =
     record { job = jobAt (o .memory) (getD jobs i 0); turns = ofJob i js (o .turns); stops = ofJob i js (o .stops) }
 
 -- what a schedule left of job i, and what its own stints alone leave of it
-abbrev pub seenByJob : Schedule → ℕ → JobPlayed
-seenByJob s i = partOfJob i (s .jobs) (s .stintJobs) (played s)
+abbrev pub seenByJob : Schedule → ℕ → JobEnd
+seenByJob s i = partOfJob i (s .jobs) (s .stintJobs) (scheduleEnd s)
 
-abbrev pub ownStints : Schedule → ℕ → JobPlayed
+abbrev pub ownStints : Schedule → ℕ → JobEnd
 ownStints s i = jobStints (ofJob i (s .stintJobs) (s .stintTurns)) (jobAt (s .memory) (getD (s .jobs) i 0))

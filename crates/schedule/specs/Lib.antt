@@ -6,4 +6,6 @@ pub mod Refusals
 pub mod Isolation
 -- a job by itself
 pub mod Job
+-- what may run
+pub mod Ready
 pub mod Laws

@@ -14,14 +14,14 @@ pub record Schedule : Type 0 where
   pub stintTurns : List ℕ
 
 -- the memory and the record handed back, and of each stint the turns made and the stop's number, or 0
-pub record Played : Type 0 where
+pub record ScheduleEnd : Type 0 where
   pub memory : List ℕ
   pub central : Central
   pub turns : List ℕ
   pub stops : List ℕ
 
 -- a stint, and then the stints after it
-abbrev pub stintThen : StintMemory → Played → Played
+abbrev pub stintThen : StintMemory → ScheduleEnd → ScheduleEnd
 stintThen s o =
     record {
       memory = o .memory;
@@ -32,7 +32,7 @@ stintThen s o =
 
 -- "The stints run in the order listed, the first on the memory and record given, each later one on what the one before it left":
 -- the jobs' packages, the job and the turns of each stint, memory and record
-unfoldable pub stintsOf : List ℕ → List ℕ → List ℕ → List ℕ → Central → Played
+unfoldable pub stintsOf : List ℕ → List ℕ → List ℕ → List ℕ → Central → ScheduleEnd
 stintsOf jobs [] ts m c = record { memory = m; central = c; turns = []; stops = [] }
 stintsOf jobs (j ∷ js) [] m c = record { memory = m; central = c; turns = []; stops = [] }
 stintsOf jobs (j ∷ js) (t ∷ ts) m c =
@@ -40,5 +40,5 @@ stintsOf jobs (j ∷ js) (t ∷ ts) m c =
     (stintsOf jobs js ts (stintOf m c (getD jobs j 0) t .memory) (stintOf m c (getD jobs j 0) t .end .central))
 
 -- the end of a schedule
-abbrev pub played : Schedule → Played
-played s = stintsOf (s .jobs) (s .stintJobs) (s .stintTurns) (s .memory) (s .central)
+abbrev pub scheduleEnd : Schedule → ScheduleEnd
+scheduleEnd s = stintsOf (s .jobs) (s .stintJobs) (s .stintTurns) (s .memory) (s .central)

@@ -6,10 +6,9 @@ use lib.ListN.{length, replicate}
 use Rattle.outcome.specs.declared.refusal.Verdict.the-variants as Call
 use Rattle.outcome.specs.declared.refusal.Verdict.{Verdict}
 use Rattle.exchange.specs.declared.record.Central.{Central}
-use Rattle.schedule.specs.Laws.Projection.{Listed}
-use Rattle.schedule.specs.Laws.Stint.{Ready}
 use Rattle.schedule.specs.Refusals.{mostStints, scheduleVerdict}
-use Rattle.schedule.specs.Schedule.{Schedule, Played, played}
+use Rattle.schedule.specs.Ready.{Ready, Listed}
+use Rattle.schedule.specs.Schedule.{Schedule, ScheduleEnd, scheduleEnd}
 use Rattle.shared.specs.declared.call.ScheduleAnswer.{ScheduleAnswer}
 use Rattle.shared.specs.declared.stints.StintsEnd.{StintsEnd}
 
@@ -31,7 +30,7 @@ stintsTo m o = record { memory = m; end = o }
 abbrev pub padded : List ℕ → List ℕ
 padded xs = xs ++ replicate (mostStints - length xs) 0
 
-abbrev pub inArrays : Played → StintsMemory
+abbrev pub inArrays : ScheduleEnd → StintsMemory
 inArrays o =
     stintsTo (o .memory) (record { central = o .central; turns = padded (o .turns); stops = padded (o .stops) })
 
@@ -49,12 +48,12 @@ answerTo m o = record { memory = m; answer = o }
 -- "A call that meets none of these conditions is carried out. After a refusal the state comes back equal, counts are 0."
 abbrev pub answerBy : Verdict → Schedule → Answered
 answerBy Call.Accepted s =
-    answerTo (played s .memory)
+    answerTo (scheduleEnd s .memory)
     (record {
       verdict = Call.Accepted;
-      central = played s .central;
-      turns = padded (played s .turns);
-      stops = padded (played s .stops);
+      central = scheduleEnd s .central;
+      turns = padded (scheduleEnd s .turns);
+      stops = padded (scheduleEnd s .stops);
     })
 answerBy (Call.Refused r) s =
     answerTo (s .memory)

@@ -27,9 +27,13 @@ abbrev pub after : List ℕ → Central → Run → RanMemory
 after m c o =
     ranTo (splice m (c .ra) (c .fl) (o .state .field)) (record { central = recordAfter c o; turns = o .end .turns })
 
--- up to n turns on the words from RA up to, but without, RA + FL
+-- up to n turns of a record on the words of a field
+abbrev pub turnsOn : ℕ → Central → List ℕ → Run
+turnsOn n c f = turnsOf n (boundsOf c) (c .p) (state (c .registers) f)
+
+-- the field is the words from RA up to, but without, RA + FL
 abbrev pub fieldRun : List ℕ → Central → ℕ → Run
-fieldRun m c n = turnsOf n (boundsOf c) (c .p) (state (c .registers) (part m (c .ra) (c .fl)))
+fieldRun m c n = turnsOn n c (part m (c .ra) (c .fl))
 
 unfoldable pub ranOn : List ℕ → Central → ℕ → RanMemory
 ranOn m c n = after m c (fieldRun m c n)

@@ -12,11 +12,11 @@ use Rattle.exchange.specs.Memory.{part}
 use Rattle.exchange.specs.Package.{coded, decoded}
 use Rattle.single.specs.Laws.Field.{field-kept}
 use Rattle.schedule.specs.Isolation.{Accepted, start, end, packageAddress, fieldIn, ofJob, turnsAsked, NoneButLast, StopsInLastOnly, Isolation, OutsideJob, RestKept, RecordKept}
-use Rattle.schedule.specs.Job.{Job, jobAt, JobPlayed, seenByJob, ownStints}
+use Rattle.schedule.specs.Job.{Job, jobAt, JobEnd, seenByJob, ownStints}
 use Rattle.schedule.specs.Laws.Projection.{projection, record-back, length-back, ra-back, fl-back, word-back}
 use Rattle.schedule.specs.Laws.Refusals.{accepted-lists, accepted-ready}
-use Rattle.schedule.specs.Laws.Stint.{Ready}
 use Rattle.schedule.specs.Laws.Sum.{Fit, Total, totalOf, oneStint, stints-sum}
+use Rattle.schedule.specs.Ready.{Ready}
 use Rattle.schedule.specs.Schedule.{Schedule}
 
 module _ (s : Schedule) (a : Accepted s) where
@@ -61,7 +61,7 @@ module _ (s : Schedule) (a : Accepted s) where
     as-one-stint last =
         ap totalOf own-stints-only
         ∙ stints-sum (ofJob i (s .stintJobs) (s .stintTurns)) before job-fit job-clean
-        (subst NoneButLast (ap (λ (l : JobPlayed). l .stops) own-stints-only) last)
+        (subst NoneButLast (ap (λ (l : JobEnd). l .stops) own-stints-only) last)
 
     -- the field by the package at the start is the field by the package at the end
     field-end : fieldIn s i (end s) ≡ jobAt (end s) at .fieldWords

@@ -20,7 +20,7 @@ use Rattle.single.specs.Program.{overlapVerdict, ownerVerdict, runVerdict}
 use Rattle.single.specs.Stint as Single
 use Rattle.single.specs.Stint.{stintOf}
 use Rattle.schedule.specs.Refusals.{listsFit, jobsListed, turnsFit, listsVerdict, packageInside, packageClean, fieldInside, packageMeetsField, jobsApart, allApart, ownersVerdict, scheduleVerdict}
-use Rattle.schedule.specs.Schedule.{Schedule, stintsOf, played}
+use Rattle.schedule.specs.Schedule.{Schedule, stintsOf, scheduleEnd}
 
 abbrev pub oneJob : List ℕ → Central → ℕ → ℕ → Schedule
 oneJob m c at n = record { memory = m; central = c; jobs = at ∷ []; stintJobs = 0 ∷ []; stintTurns = n ∷ [] }
@@ -68,8 +68,8 @@ module _ (m : List ℕ) (at n : ℕ) where
   one-verdict c = rw (one-list, one-owner, turns-tested (leb n 65535) refl (orElse (packageVerdict m at) (overlapVerdict m at)))
 
   -- the stint is the one that the run of a program makes
-  pub one-played : (c : Central)
-      → played (oneJob m c at n)
+  pub one-scheduleEnd : (c : Central)
+      → scheduleEnd (oneJob m c at n)
       ≡ record {
         memory = stintOf m c at n .memory;
         central = stintOf m c at n .end .central;
@@ -77,7 +77,7 @@ module _ (m : List ℕ) (at n : ℕ) where
         stops = stintOf m c at n .end .stop ∷ [];
       }
   unfolding stintsOf
-  one-played c = refl
+  one-scheduleEnd c = refl
 
   -- where no number refuses
   pub one-accepted : (c : Central) → Single.Accepted m c at → n ≤ 65535 → scheduleVerdict (oneJob m c at n) ≡ Call.Accepted

@@ -13,13 +13,10 @@ use Rattle.exchange.specs.declared.record.Central.{Central}
 use Rattle.single.specs.Laws.Stint.{stint-outside}
 use Rattle.single.specs.Stint.{StintMemory, stintOf}
 use Rattle.schedule.specs.Isolation.{ofJob}
-use Rattle.schedule.specs.Job.{Job, jobAt, jobRun, jobAfter, JobPlayed, runThen, jobStints, partOfJob}
-use Rattle.schedule.specs.Laws.Stint.{Ready, may-run, record-kept, length-kept, other-job, own-job, own-turns, own-stop, ra-kept, fl-kept, still-ready}
-use Rattle.schedule.specs.Schedule.{Played, stintsOf}
-
--- every stint is of a listed job
-abbrev pub Listed : List ℕ → List ℕ → Type 0
-Listed jobs js = (k : ℕ) → k < length js → getD js k 0 < length jobs
+use Rattle.schedule.specs.Job.{Job, jobAt, jobRun, jobAfter, JobEnd, runThen, jobStints, partOfJob}
+use Rattle.schedule.specs.Laws.Stint.{may-run, record-kept, length-kept, other-job, own-job, own-turns, own-stop, ra-kept, fl-kept, still-ready}
+use Rattle.schedule.specs.Ready.{Ready, Listed}
+use Rattle.schedule.specs.Schedule.{ScheduleEnd, stintsOf}
 
 first-listed : (jobs : List ℕ) (j : ℕ) (js : List ℕ) → Listed jobs (j ∷ js) → j < length jobs
 first-listed jobs j js l = l 0 (omega arith)
@@ -32,7 +29,7 @@ module _ (m : List ℕ) (c : Central) (jobs : List ℕ) (r : Ready m c jobs) (i 
   abbrev now : StintMemory
   now = stintOf m c (getD jobs j 0) t
 
-  abbrev later : Played
+  abbrev later : ScheduleEnd
   later = stintsOf jobs js ts (now .memory) (now .end .central)
 
   abbrev before : Job
@@ -51,7 +48,7 @@ module _ (m : List ℕ) (c : Central) (jobs : List ℕ) (r : Ready m c jobs) (i 
 
   step : partOfJob i jobs js later ≡ jobStints (ofJob i js ts) (jobAt (now .memory) (getD jobs i 0))
       → (own : Bool) → eqb j i ≡ own
-      → _≡_ {A = JobPlayed}
+      → _≡_ {A = JobEnd}
       (record {
         job = jobAt (later .memory) (getD jobs i 0);
         turns = cond own (now .end .turns ∷ ofJob i js (later .turns)) (ofJob i js (later .turns));
@@ -95,7 +92,7 @@ module _ (jobs : List ℕ) where
       stints-keep P one js ts _ _ (still-ready m c jobs r j lj t) (rest-listed jobs j js l) (one m c r j lj t h)
 
   module _ (js ts m : List ℕ) (c : Central) (r : Ready m c jobs) (l : Listed jobs js) where
-    abbrev end : Played
+    abbrev end : ScheduleEnd
     end = stintsOf jobs js ts m c
 
     pub record-back : end .central ≡ c

@@ -16,9 +16,8 @@ use Rattle.exchange.specs.Record.{hostVerdict}
 use Rattle.exchange.specs.declared.record.Central.{Central}
 use Rattle.single.specs.Laws.Host.{both-accept}
 use Rattle.schedule.specs.Isolation.{Accepted}
-use Rattle.schedule.specs.Laws.Projection.{Listed}
-use Rattle.schedule.specs.Laws.Stint.{Ready}
 use Rattle.schedule.specs.Refusals.{mostJobs, mostStints, listsFit, jobsListed, turnsFit, listsVerdict, everyJob, packageInside, packageClean, fieldInside, packageMeetsField, packagesMeet, fieldsMeet, jobsApart, allApart, ownersVerdict, scheduleVerdict}
+use Rattle.schedule.specs.Ready.{Ready, Listed}
 use Rattle.schedule.specs.Schedule.{Schedule}
 
 -- numbers 6 to 8 do not refuse

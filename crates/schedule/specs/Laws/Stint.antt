@@ -10,7 +10,7 @@ use lib.ListN.{length, getD}
 use Rattle.exchange.specs.Jump.{recordAt}
 use Rattle.exchange.specs.Laws.Memory.{part-same}
 use Rattle.exchange.specs.Laws.Package.{coded-no-stray}
-use Rattle.exchange.specs.Laws.Verdicts.{HostAccepted, PackageAccepted}
+use Rattle.exchange.specs.Laws.Verdicts.{HostAccepted}
 use Rattle.exchange.specs.Memory.{part}
 use Rattle.exchange.specs.Package.{hasStray, decoded}
 use Rattle.exchange.specs.declared.record.Central.{Central}
@@ -20,16 +20,7 @@ use Rattle.single.specs.Overlap.{sharesWord}
 use Rattle.single.specs.Stint as Single
 use Rattle.single.specs.Stint.{stintOf}
 use Rattle.schedule.specs.Job.{jobAt, jobRun, jobAfter}
-use Rattle.schedule.specs.Refusals.{packageMeetsField, packagesMeet, fieldsMeet}
-
--- memory, record and jobs that may be scheduled: the host lends what it may, each package is accepted, and no two packages or fields share a word
-pub record Ready (m : List ℕ) (c : Central) (jobs : List ℕ) : Type 0 where
-  pub host : HostAccepted m c
-  pub registers : length (c .registers) ≡ 24
-  pub owner : (i : ℕ) → i < length jobs → PackageAccepted m (getD jobs i 0)
-  pub package-field : (i j : ℕ) → i < length jobs → j < length jobs → packageMeetsField m (getD jobs i 0) (getD jobs j 0) ≡ false
-  pub packages : (i j : ℕ) → i < length jobs → j < length jobs → (i ≡ j → ⊥) → packagesMeet (getD jobs i 0) (getD jobs j 0) ≡ false
-  pub fields : (i j : ℕ) → i < length jobs → j < length jobs → (i ≡ j → ⊥) → fieldsMeet m (getD jobs i 0) (getD jobs j 0) ≡ false
+use Rattle.schedule.specs.Ready.{Ready}
 
 module _ (m : List ℕ) (c : Central) (jobs : List ℕ) (r : Ready m c jobs) (j : ℕ) (lj : j < length jobs) where
   abbrev at : ℕ → ℕ

@@ -14,7 +14,7 @@ use Rattle.exchange.specs.declared.record.Central.{Central}
 use Rattle.single.specs.Field.{boundsOf, recordAfter}
 use Rattle.single.specs.Laws.Field.{after-fits-package}
 use Rattle.schedule.specs.Isolation.{sum, lastOf, NoneButLast}
-use Rattle.schedule.specs.Job.{Job, jobRun, jobAfter, JobPlayed, jobStints}
+use Rattle.schedule.specs.Job.{Job, jobRun, jobAfter, JobEnd, jobStints}
 
 -- a job with its widths
 pub record Fit (w : Job) : Type 0 where
@@ -67,7 +67,7 @@ pub record Total : Type 0 where
   pub made : ℕ
   pub stop : ℕ
 
-abbrev pub totalOf : JobPlayed → Total
+abbrev pub totalOf : JobEnd → Total
 totalOf l = record { job = l .job; made = sum (l .turns); stop = lastOf (l .stops) }
 
 -- of one stint

@@ -12,7 +12,7 @@ use Rattle.schedule.specs.Isolation.{Accepted, start, packageIn, fieldIn, ofJob
 use Rattle.schedule.specs.Laws.Isolation.{isolation, rest-kept, record-kept}
 use Rattle.schedule.specs.Laws.Refusals.{accepted-lists}
 use Rattle.schedule.specs.Refusals.{scheduleVerdict}
-use Rattle.schedule.specs.Schedule.{Schedule, stintsOf, played}
+use Rattle.schedule.specs.Schedule.{Schedule, stintsOf, scheduleEnd}
 use Rattle.shared.specs.Answer.{answerBy, scheduleAnswer}
 
 -- a call that is carried out, by its answer
@@ -66,15 +66,15 @@ module _ (s : Schedule) (a : CarriedOut s) where
   answer-is = rw (accepted .verdict)
 
   module _ (i : ℕ) where
-    pub turns-are : turnsOfJob s i ≡ ofJob i (s .stintJobs) (played s .turns)
+    pub turns-are : turnsOfJob s i ≡ ofJob i (s .stintJobs) (scheduleEnd s .turns)
     turns-are =
         rw answer-is
-        (past-last i (s .stintJobs) (played s .turns) _ (one-each (s .jobs) (s .stintJobs) (s .stintTurns) (s .memory) (s .central) (accepted-lists s accepted .even) .0))
+        (past-last i (s .stintJobs) (scheduleEnd s .turns) _ (one-each (s .jobs) (s .stintJobs) (s .stintTurns) (s .memory) (s .central) (accepted-lists s accepted .even) .0))
 
-    pub stops-are : stopsOfJob s i ≡ ofJob i (s .stintJobs) (played s .stops)
+    pub stops-are : stopsOfJob s i ≡ ofJob i (s .stintJobs) (scheduleEnd s .stops)
     stops-are =
         rw answer-is
-        (past-last i (s .stintJobs) (played s .stops) _ (one-each (s .jobs) (s .stintJobs) (s .stintTurns) (s .memory) (s .central) (accepted-lists s accepted .even) .1))
+        (past-last i (s .stintJobs) (scheduleEnd s .stops) _ (one-each (s .jobs) (s .stintJobs) (s .stintTurns) (s .memory) (s .central) (accepted-lists s accepted .even) .1))
 
 -- two calls that are carried out give a job that is alike in package, field and turns asked, and stops in no stint but its last, alike answers
 pub answers-alike : (s s′ : Schedule) → CarriedOut s → CarriedOut s′ → (i i′ : ℕ) → i < length (s .jobs) → i′ < length (s′ .jobs)

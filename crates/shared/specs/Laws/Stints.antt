@@ -9,11 +9,12 @@ use lib.Seq.{length-take-le, drop-cons, drop-drop, drop-set-lt, take-suc-set, ap
 use Rattle.exchange.specs.declared.record.Central.{Central}
 use Rattle.single.specs.Stint as Single
 use Rattle.single.specs.Stint.{StintMemory, stintOf}
-use Rattle.schedule.specs.Laws.Stint.{Ready, may-run, length-kept, still-ready}
-use Rattle.schedule.specs.Schedule.{Played, stintThen, stintsOf}
+use Rattle.schedule.specs.Laws.Stint.{may-run, length-kept, still-ready}
+use Rattle.schedule.specs.Ready.{Ready}
+use Rattle.schedule.specs.Schedule.{ScheduleEnd, stintThen, stintsOf}
 use Rattle.shared.specs.Answer.{MayRun, stintsTo, padded, inArrays}
 
-abbrev joined : List ℕ → List ℕ → Played → Played
+abbrev joined : List ℕ → List ℕ → ScheduleEnd → ScheduleEnd
 joined xs ys o = record { memory = o .memory; central = o .central; turns = xs ++ o .turns; stops = ys ++ o .stops }
 
 -- the entries of an array up to k are those of the stints made; the others are 0
@@ -85,7 +86,7 @@ module _ (jobs js ts m₀ : List ℕ) (c₀ : Central) (m : List ℕ) (c : Centr
     entry-more xs zs v e = rw (add-one, take-suc-set xs k v (omega (arith, g .may .most))) (append-snoc (take k xs) v zs)
 
     module _ (o : StintMemory) (e : o ≡ made) where
-      abbrev later : Played
+      abbrev later : ScheduleEnd
       later = stintsOf jobs (drop (k + 1) js) (drop (k + 1) ts) (o .memory) (o .end .central)
 
       still-may : MayRun (o .memory) (o .end .central) jobs js ts

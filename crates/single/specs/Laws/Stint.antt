@@ -7,7 +7,7 @@ use Prim.Native.Nat.{ℕ, _+_, _≤_, _<_}
 use native.Mathlib.Omega.{arith}
 use lib.ListN.{length, getD}
 use Rattle.central.specs.State.{state}
-use Rattle.central.specs.Turn.{Run, turnsOf}
+use Rattle.central.specs.Turn.{Run}
 use Rattle.exchange.specs.Memory.{part}
 use Rattle.exchange.specs.Package.{coded, decoded}
 use Rattle.exchange.specs.Record.{FitsPackage, running, wordsFit}
@@ -18,7 +18,7 @@ use Rattle.exchange.specs.Laws.Package.{count-decoded, decoded-coded}
 use Rattle.exchange.specs.Laws.Verdicts.{HostAccepted, host-accepted, of-host-accepted, of-package-accepted}
 use Rattle.exchange.specs.Laws.Jump.{exchange-length, exchange-package, exchange-below, exchange-above, exchange-words, exchange-host-accepted}
 use Rattle.exchange.specs.declared.record.Central.{Central}
-use Rattle.single.specs.Field.{boundsOf, RanMemory, recordAfter, fieldRun, ranOn}
+use Rattle.single.specs.Field.{RanMemory, recordAfter, turnsOn, fieldRun, ranOn}
 use Rattle.single.specs.Stint.{stintTo, withStop, stintOf, Accepted}
 use Rattle.single.specs.Laws.Field.{field-inside, ran-left, ran-length, ran-fits-package, ran-accepted, ran-below, ran-above}
 use Rattle.single.specs.Laws.Overlap.{apart, shares-comm}
@@ -117,8 +117,7 @@ module _ (m : List ℕ) (c : Central) (at : ℕ) (a : Accepted m c at) where
 
   turns-own : (n : ℕ) → fieldRun (exchanged m c at .memory) (exchanged m c at .central) n ≡ own n
   unfolding exchanged
-  turns-own n =
-      ap (λ (f : List ℕ). turnsOf n (boundsOf (recordAt m at)) (recordAt m at .p) (state (recordAt m at .registers) f)) (field-left m c (a .owner .inside))
+  turns-own n = ap (turnsOn n (recordAt m at)) (field-left m c (a .owner .inside))
 
   turns-record : (n : ℕ) → ranOn (exchanged m c at .memory) (exchanged m c at .central) n .end .central ≡ recordAfter (recordAt m at) (own n)
   unfolding ranOn exchanged
