@@ -3,6 +3,7 @@ use mathlib.Core.Path.{_≡_, sym, ap, ap₂, subst, _∙_}
 use Prim.Native.Nat.{ℕ, _<_}
 use native.Mathlib.Omega.{arith}
 use lib.ListN.{length}
+use Rattle.central.specs.declared.address.Bounds.{Bounds}
 use Rattle.exchange.specs.Jump.{recordAt}
 use Rattle.exchange.specs.Laws.Jump.{record-at-fits, record-at-fits-package}
 use Rattle.exchange.specs.Laws.Memory.{length-part}
@@ -13,7 +14,7 @@ use Rattle.exchange.specs.Package.{coded, decoded}
 use Rattle.single.specs.Laws.Field.{field-kept}
 use Rattle.schedule.specs.Isolation.{Accepted, start, end, packageAddress, fieldIn, ofJob, turnsAsked, NoneButLast, StopsInLastOnly, Isolation, OutsideJob, RestKept, RecordKept}
 use Rattle.schedule.specs.Job.{Job, jobAt, JobEnd, seenByJob, ownStints}
-use Rattle.schedule.specs.Laws.Projection.{projection, record-back, length-back, ra-back, fl-back, word-back}
+use Rattle.schedule.specs.Laws.Projection.{projection, record-back, length-back, bounds-back, word-back}
 use Rattle.schedule.specs.Laws.Refusals.{accepted-lists, accepted-ready}
 use Rattle.schedule.specs.Laws.Sum.{Fit, Total, totalOf, oneStint, stints-sum}
 use Rattle.schedule.specs.Ready.{Ready}
@@ -66,11 +67,8 @@ module _ (s : Schedule) (a : Accepted s) where
     -- the field by the package at the start is the field by the package at the end
     field-end : fieldIn s i (end s) ≡ jobAt (end s) at .fieldWords
     field-end =
-        let l = accepted-lists s a .listed in
-        rw (
-          ra-back (s .jobs) (s .stintJobs) (s .stintTurns) (s .memory) (s .central) ready l i li,
-          fl-back (s .jobs) (s .stintJobs) (s .stintTurns) (s .memory) (s .central) ready l i li,
-        )
+        ap (λ (b : Bounds). part (end s) (b .ra) (b .fl))
+        (sym (bounds-back (s .jobs) (s .stintJobs) (s .stintTurns) (s .memory) (s .central) ready (accepted-lists s a .listed) i li))
 
 pub isolation : Isolation
 isolation s s′ a a′ i i′ li li′ last last′ alike =

@@ -10,11 +10,12 @@ use lib.Dec.{eqb}
 use lib.ListN.{length, getD}
 use Rattle.exchange.specs.Jump.{recordAt}
 use Rattle.exchange.specs.declared.record.Central.{Central}
+use Rattle.single.specs.Field.{boundsOf}
 use Rattle.single.specs.Laws.Stint.{stint-outside}
 use Rattle.single.specs.Stint.{StintMemory, stintOf}
 use Rattle.schedule.specs.Isolation.{ofJob}
 use Rattle.schedule.specs.Job.{Job, jobAt, jobRun, jobAfter, JobEnd, runThen, jobStints, partOfJob}
-use Rattle.schedule.specs.Laws.Stint.{may-run, record-kept, length-kept, other-job, own-job, own-turns, own-stop, ra-kept, fl-kept, still-ready}
+use Rattle.schedule.specs.Laws.Stint.{may-run, record-kept, length-kept, other-job, own-job, own-turns, own-stop, bounds-kept, ra-kept, fl-kept, still-ready}
 use Rattle.schedule.specs.Ready.{Ready, Listed}
 use Rattle.schedule.specs.Schedule.{ScheduleEnd, stintsOf}
 
@@ -103,16 +104,11 @@ module _ (jobs : List ℕ) where
     length-back =
         stints-keep (λ x d. length x ≡ length m) (λ x d q j lj t e. length-kept x d jobs q j lj t ∙ e) js ts m c r l refl
 
-    -- RA and FL of every job stay
-    pub ra-back : (i : ℕ) → i < length jobs → recordAt (end .memory) (getD jobs i 0) .ra ≡ recordAt m (getD jobs i 0) .ra
-    ra-back i li =
-        stints-keep (λ x d. recordAt x (getD jobs i 0) .ra ≡ recordAt m (getD jobs i 0) .ra)
-        (λ x d q j lj t e. ra-kept x d jobs q j lj t i li ∙ e) js ts m c r l refl
-
-    pub fl-back : (i : ℕ) → i < length jobs → recordAt (end .memory) (getD jobs i 0) .fl ≡ recordAt m (getD jobs i 0) .fl
-    fl-back i li =
-        stints-keep (λ x d. recordAt x (getD jobs i 0) .fl ≡ recordAt m (getD jobs i 0) .fl)
-        (λ x d q j lj t e. fl-kept x d jobs q j lj t i li ∙ e) js ts m c r l refl
+    -- RA, FL and EM of every job stay
+    pub bounds-back : (i : ℕ) → i < length jobs → boundsOf (recordAt (end .memory) (getD jobs i 0)) ≡ boundsOf (recordAt m (getD jobs i 0))
+    bounds-back i li =
+        stints-keep (λ x d. boundsOf (recordAt x (getD jobs i 0)) ≡ boundsOf (recordAt m (getD jobs i 0)))
+        (λ x d q j lj t e. bounds-kept x d jobs q j lj t i li ∙ e) js ts m c r l refl
 
     -- a word outside every package and field stays
     pub word-back : (w : ℕ) → ((i : ℕ) → i < length jobs → Outside m w (getD jobs i 0)) → getD (end .memory) w 0 ≡ getD m w 0

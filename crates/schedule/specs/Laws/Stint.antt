@@ -7,6 +7,7 @@ use native.Mathlib.Omega.{arith}
 use borrow.Author.Tests.{eqb-true, eqb-false}
 use lib.Dec.{eqb}
 use lib.ListN.{length, getD}
+use Rattle.central.specs.declared.address.Bounds.{Bounds}
 use Rattle.exchange.specs.Jump.{recordAt}
 use Rattle.exchange.specs.Laws.Memory.{part-same}
 use Rattle.exchange.specs.Laws.Package.{coded-no-stray}
@@ -14,6 +15,7 @@ use Rattle.exchange.specs.Laws.Verdicts.{HostAccepted}
 use Rattle.exchange.specs.Memory.{part}
 use Rattle.exchange.specs.Package.{hasStray, decoded}
 use Rattle.exchange.specs.declared.record.Central.{Central}
+use Rattle.single.specs.Field.{boundsOf}
 use Rattle.single.specs.Laws.Overlap.{apart, shares-comm}
 use Rattle.single.specs.Laws.Stint.{stint-record, stint-outside, stint-length, stint-words, stint-package, stint-field, stint-turns, stint-stop, after-fits, after-record}
 use Rattle.single.specs.Overlap.{sharesWord}
@@ -84,18 +86,18 @@ module _ (m : List ℕ) (c : Central) (jobs : List ℕ) (r : Ready m c jobs) (j 
         by-test true e = subst P (eqb-true j i e) own
         by-test false e = others i li (eqb-false j i e)
 
-    -- RA and FL of every job stay
+    -- RA, FL and EM of every job stay
+    pub bounds-kept : (i : ℕ) → i < length jobs → boundsOf (recordAt left (at i)) ≡ boundsOf (recordAt m (at i))
+    bounds-kept =
+        each (λ i. boundsOf (recordAt left (at i)) ≡ boundsOf (recordAt m (at i)))
+        (ap boundsOf (after-record m c (at j) may-run n))
+        (λ i li o. ap boundsOf (other-record i li o))
+
     pub ra-kept : (i : ℕ) → i < length jobs → recordAt left (at i) .ra ≡ recordAt m (at i) .ra
-    ra-kept =
-        each (λ i. recordAt left (at i) .ra ≡ recordAt m (at i) .ra)
-        (ap (λ (d : Central). d .ra) (after-record m c (at j) may-run n))
-        (λ i li o. ap (λ (d : Central). d .ra) (other-record i li o))
+    ra-kept i li = ap (λ (b : Bounds). b .ra) (bounds-kept i li)
 
     pub fl-kept : (i : ℕ) → i < length jobs → recordAt left (at i) .fl ≡ recordAt m (at i) .fl
-    fl-kept =
-        each (λ i. recordAt left (at i) .fl ≡ recordAt m (at i) .fl)
-        (ap (λ (d : Central). d .fl) (after-record m c (at j) may-run n))
-        (λ i li o. ap (λ (d : Central). d .fl) (other-record i li o))
+    fl-kept i li = ap (λ (b : Bounds). b .fl) (bounds-kept i li)
 
     no-stray-kept : (i : ℕ) → i < length jobs → hasStray (part left (at i) 16) ≡ false
     no-stray-kept =

@@ -4,6 +4,7 @@ use mathlib.Core.Path.{_≡_, refl, sym, ap, subst, _∙_}
 use Prim.Native.Nat.{ℕ, suc, _<_}
 use native.Mathlib.Omega.{arith}
 use lib.ListN.{length, getD}
+use Rattle.outcome.specs.declared.refusal.Refusal.{Refusal}
 use Rattle.outcome.specs.declared.refusal.Verdict.the-variants as Call
 use Rattle.outcome.specs.declared.refusal.Verdict.{Verdict}
 use Rattle.exchange.specs.declared.record.Central.{Central}
@@ -13,7 +14,7 @@ use Rattle.schedule.specs.Laws.Isolation.{isolation, rest-kept, record-kept}
 use Rattle.schedule.specs.Laws.Refusals.{accepted-lists}
 use Rattle.schedule.specs.Refusals.{scheduleVerdict}
 use Rattle.schedule.specs.Schedule.{Schedule, stintsOf, scheduleEnd}
-use Rattle.shared.specs.Answer.{answerBy, scheduleAnswer}
+use Rattle.shared.specs.Answer.{Answered, answerBy, scheduleAnswer}
 
 -- a call that is carried out, by its answer
 pub record CarriedOut (s : Schedule) : Type 0 where
@@ -33,7 +34,7 @@ pub record AnswersAlike (s : Schedule) (i : ℕ) (s′ : Schedule) (i′ : ℕ) 
   pub made : sum (turnsOfJob s i) ≡ sum (turnsOfJob s′ i′)
   pub stop : lastOf (stopsOfJob s i) ≡ lastOf (stopsOfJob s′ i′)
 
--- the answer has the verdict's number
+-- the answer's verdict
 same-verdict : (v : Verdict) (s : Schedule) → answerBy v s .answer .verdict ≡ v
 same-verdict Call.Accepted s = refl
 same-verdict (Call.Refused r) s = refl
@@ -90,29 +91,22 @@ answers-alike s s′ a a′ i i′ li li′ last last′ alike =
       stop = rw (stops-are s a i, stops-are s′ a′ i′) (e .stop);
     }
 
--- accepted or refused, the record comes back as it was, memory keeps its length, and so does every word outside the listed packages and fields its value
+-- accepted or refused: the record comes back as it was, memory keeps its length, and each word outside the listed packages and fields its value
 module _ (s : Schedule) (count : length (s .central .registers) ≡ 24) where
-  record-by : (v : Verdict) → scheduleVerdict s ≡ v → answerBy v s .answer .central ≡ s .central
-  record-by Call.Accepted e = record-kept s (record { verdict = e; registers = count })
-  record-by (Call.Refused r) e = refl
+  either : (P : Answered → Type 0) → (Accepted s → P (answerBy Call.Accepted s)) → ((r : Refusal) → P (answerBy (Call.Refused r) s))
+      → P (scheduleAnswer s)
+  unfolding scheduleAnswer
+  either P done refused = by-verdict (scheduleVerdict s) refl
+    where
+      by-verdict : (v : Verdict) → scheduleVerdict s ≡ v → P (answerBy v s)
+      by-verdict Call.Accepted e = done (record { verdict = e; registers = count })
+      by-verdict (Call.Refused r) e = refused r
 
   pub record-back : scheduleAnswer s .answer .central ≡ s .central
-  unfolding scheduleAnswer
-  record-back = record-by (scheduleVerdict s) refl
-
-  length-by : (v : Verdict) → scheduleVerdict s ≡ v → length (answerBy v s .memory) ≡ length (start s)
-  length-by Call.Accepted e = rest-kept s (record { verdict = e; registers = count }) .0
-  length-by (Call.Refused r) e = refl
+  record-back = either (λ o. o .answer .central ≡ s .central) (λ a. record-kept s a) (λ r. refl)
 
   pub length-back : length (scheduleAnswer s .memory) ≡ length (start s)
-  unfolding scheduleAnswer
-  length-back = length-by (scheduleVerdict s) refl
+  length-back = either (λ o. length (o .memory) ≡ length (start s)) (λ a. rest-kept s a .0) (λ r. refl)
 
-  module _ (x : ℕ) (out : (i : ℕ) → i < length (s .jobs) → OutsideJob s x i) where
-    word-by : (v : Verdict) → scheduleVerdict s ≡ v → getD (answerBy v s .memory) x 0 ≡ getD (start s) x 0
-    word-by Call.Accepted e = rest-kept s (record { verdict = e; registers = count }) .1 x out
-    word-by (Call.Refused r) e = refl
-
-    pub word-back : getD (scheduleAnswer s .memory) x 0 ≡ getD (start s) x 0
-    unfolding scheduleAnswer
-    word-back = word-by (scheduleVerdict s) refl
+  pub word-back : (x : ℕ) → ((i : ℕ) → i < length (s .jobs) → OutsideJob s x i) → getD (scheduleAnswer s .memory) x 0 ≡ getD (start s) x 0
+  word-back x out = either (λ o. getD (o .memory) x 0 ≡ getD (start s) x 0) (λ a. rest-kept s a .1 x out) (λ r. refl)

@@ -17,7 +17,7 @@ use Rattle.shared.specs.Answer.{MayRun, stintsTo, padded, inArrays}
 abbrev joined : List ℕ → List ℕ → ScheduleEnd → ScheduleEnd
 joined xs ys o = record { memory = o .memory; central = o .central; turns = xs ++ o .turns; stops = ys ++ o .stops }
 
--- the entries of an array up to k are those of the stints made; the others are 0
+-- an array of results with 0 from entry k on
 pub record Filled (k : ℕ) (xs : List ℕ) : Type 0 where
   pub size : length xs ≡ 256
   pub zeros : drop k xs ≡ replicate (256 - k) 0
@@ -36,7 +36,7 @@ filled-all : (k : ℕ) (xs : List ℕ) → k ≤ 256 → Filled k xs → padded 
 filled-all k xs h f =
     rw (length-take-le k xs (omega (arith, f .size)), ← f .zeros) (take-append-drop k xs)
 
--- k stints made of js, ts from m₀ and c₀
+-- the state of the loop: with k stints made, those left give what the whole list gives from m₀ and c₀
 pub record Going (jobs js ts m₀ : List ℕ) (c₀ : Central) (m : List ℕ) (c : Central) (turns stops : List ℕ) (k : ℕ) : Type 0 where
   pub may : MayRun m c jobs js ts
   pub upto : k ≤ length js

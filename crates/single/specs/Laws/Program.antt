@@ -6,6 +6,7 @@ use Prim.Native.Nat.{ℕ, _+_, _≤_, _<_}
 use lib.Dec.{ltb}
 use lib.ListN.{length, getD}
 use Rattle.outcome.specs.declared.refusal.Refusal.the-variants as Because
+use Rattle.outcome.specs.declared.refusal.Refusal.{Refusal}
 use Rattle.outcome.specs.declared.refusal.Verdict.the-variants as Call
 use Rattle.outcome.specs.declared.refusal.Verdict.{Verdict}
 use Rattle.exchange.specs.Record.{hostVerdict}
@@ -14,7 +15,7 @@ use Rattle.exchange.specs.Laws.Verdicts.{by-fault, host-accepted, package-accep
 use Rattle.exchange.specs.declared.record.Central.{Central}
 use Rattle.single.specs.Overlap.{sharesWord}
 use Rattle.single.specs.Stint.{stintOf, Accepted}
-use Rattle.single.specs.Program.{overlapVerdict, ownerVerdict, runVerdict, runAnswerBy, runAnswer}
+use Rattle.single.specs.Program.{overlapVerdict, ownerVerdict, runVerdict, RunAnswered, runAnswerBy, runAnswer}
 use Rattle.single.specs.Laws.Stint.{stint-record, stint-outside}
 use Rattle.single.specs.Laws.Host.{both-accept}
 
@@ -31,23 +32,23 @@ accepted m c at n e =
     }
 
 module _ (m : List ℕ) (c : Central) (at n : ℕ) where
-  record-by : (v : Verdict) → runVerdict m c at n ≡ v → length (c .registers) ≡ 24 → runAnswerBy v m c (stintOf m c at n) .answer .central ≡ c
-  record-by Call.Accepted e count = stint-record m c at (accepted m c at n e) n count
-  record-by (Call.Refused r) e count = refl
+  -- what holds of an accepted call and of each refusal
+  either : (P : RunAnswered → Type 0)
+      → (Accepted m c at → P (runAnswerBy Call.Accepted m c (stintOf m c at n)))
+      → ((r : Refusal) → P (runAnswerBy (Call.Refused r) m c (stintOf m c at n)))
+      → P (runAnswer m c at n)
+  unfolding runAnswer
+  either P done refused = by-verdict (runVerdict m c at n) refl
+    where
+      by-verdict : (v : Verdict) → runVerdict m c at n ≡ v → P (runAnswerBy v m c (stintOf m c at n))
+      by-verdict Call.Accepted e = done (accepted m c at n e)
+      by-verdict (Call.Refused r) e = refused r
 
   -- "hands the central record back as it was, stop included": accepted or refused
   pub run-record : length (c .registers) ≡ 24 → runAnswer m c at n .answer .central ≡ c
-  unfolding runAnswer
-  run-record count = record-by (runVerdict m c at n) refl count
-
-  outside-by : (v : Verdict) → runVerdict m c at n ≡ v → (i : ℕ) → (i < at) ⊎ (at + 16 ≤ i)
-      → (i < recordAt m at .ra) ⊎ (recordAt m at .ra + recordAt m at .fl ≤ i)
-      → getD (runAnswerBy v m c (stintOf m c at n) .memory) i 0 ≡ getD m i 0
-  outside-by Call.Accepted e i p f = stint-outside m c at (accepted m c at n e) n i p f
-  outside-by (Call.Refused r) e i p f = refl
+  run-record count = either (λ o. o .answer .central ≡ c) (λ a. stint-record m c at a n count) (λ r. refl)
 
   -- no word outside the package and its field changes
   pub run-outside : (i : ℕ) → (i < at) ⊎ (at + 16 ≤ i) → (i < recordAt m at .ra) ⊎ (recordAt m at .ra + recordAt m at .fl ≤ i)
       → getD (runAnswer m c at n .memory) i 0 ≡ getD m i 0
-  unfolding runAnswer
-  run-outside = outside-by (runVerdict m c at n) refl
+  run-outside i p f = either (λ o. getD (o .memory) i 0 ≡ getD m i 0) (λ a. stint-outside m c at a n i p f) (λ r. refl)
