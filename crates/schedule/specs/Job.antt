@@ -8,6 +8,7 @@ use Rattle.exchange.specs.Jump.{recordAt}
 use Rattle.exchange.specs.Memory.{part}
 use Rattle.exchange.specs.Package.{coded, decoded}
 use Rattle.single.specs.Field.{recordAfter, turnsOn}
+use Rattle.single.specs.Stint.{StintMemory}
 use Rattle.schedule.specs.Isolation.{ofJob}
 use Rattle.schedule.specs.Schedule.{Schedule, ScheduleEnd, scheduleEnd}
 
@@ -27,19 +28,32 @@ jobRun n w = turnsOn n (decoded (w .packageWords)) (w .fieldWords)
 abbrev pub jobAfter : Job → Run → Job
 jobAfter w o = record { packageWords = coded (recordAfter (decoded (w .packageWords)) o); fieldWords = o .state .field }
 
+-- the job after a stint, the turns made, and the stop's number, or 0
+pub record JobStint : Type 0 where
+  pub job : Job
+  pub turns : ℕ
+  pub stop : ℕ
+
+abbrev pub jobStint : ℕ → Job → JobStint
+jobStint n w = record { job = jobAfter w (jobRun n w); turns = jobRun n w .end .turns; stop = jobRun n w .end .stop }
+
 -- the job after a list of stints, and of each the turns made and the stop's number, or 0
 pub record JobEnd : Type 0 where
   pub job : Job
   pub turns : List ℕ
   pub stops : List ℕ
 
-abbrev pub runThen : Run → JobEnd → JobEnd
-runThen o l = record { job = l .job; turns = o .end .turns ∷ l .turns; stops = o .end .stop ∷ l .stops }
+abbrev pub jobStintThen : JobStint → JobEnd → JobEnd
+jobStintThen o l = record { job = l .job; turns = o .turns ∷ l .turns; stops = o .stop ∷ l .stops }
 
 -- stints of so many turns each, one after the other
 unfoldable pub jobStints : List ℕ → Job → JobEnd
 jobStints [] w = record { job = w; turns = []; stops = [] }
-jobStints (t ∷ ts) w = runThen (jobRun t w) (jobStints ts (jobAfter w (jobRun t w)))
+jobStints (t ∷ ts) w = jobStintThen (jobStint t w) (jobStints ts (jobStint t w .job))
+
+-- what a stint left of the job whose package stands at an address
+abbrev pub leftAt : StintMemory → ℕ → JobStint
+leftAt o at = record { job = jobAt (o .memory) at; turns = o .end .turns; stop = o .end .stop }
 
 -- what the stints js of the jobs left of job i
 abbrev pub partOfJob : ℕ → List ℕ → List ℕ → ScheduleEnd → JobEnd

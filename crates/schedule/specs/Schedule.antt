@@ -1,4 +1,5 @@
--- A schedule, by document 01, "Words of demand 3". Assumes nothing.
+-- A schedule, by document 01, "Words of demand 3". "Schedule" and "job" are its words: a job is a listed program, a schedule the order in which
+-- the jobs get their stints. Assumes nothing.
 use mathlib.Core.List.{List, [], _∷_}
 use Prim.Native.Nat.{ℕ}
 use lib.ListN.{getD}

@@ -50,7 +50,7 @@ fn turns_fit(ts: &[u64]) -> bool
 }
 
 // Numbers 6, 7 and 8, lowest first.
-pub fn lists_verdict(jobs: &[u64], js: &[u64], ts: &[u64]) -> Verdict
+pub(crate) fn lists_verdict(jobs: &[u64], js: &[u64], ts: &[u64]) -> Verdict
     ensures { λ r. ⌜ r ≡ listsVerdict (now (jobs .entry)) (now (js .entry)) (now (ts .entry)) ⌝ }
 {
     if !lists_fit(jobs, js, ts) {

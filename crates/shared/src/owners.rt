@@ -77,16 +77,17 @@ fn jobs_apart(m: &[u64], jobs: &[u64], i: usize, j: usize) -> bool
     let b = jobs[j];
     let first = load(m, a as usize);
     let second = load(m, b as usize);
-    if shares_word(a, 16, second.ra, second.fl) {
-        return false;
-    }
+    let crossed = shares_word(a, 16, second.ra, second.fl);
     if i == j {
-        return true;
+        return !crossed;
     }
     if shares_word(a, 16, b, 16) {
         return false;
     }
-    !shares_word(first.ra, first.fl, second.ra, second.fl)
+    if shares_word(first.ra, first.fl, second.ra, second.fl) {
+        return false;
+    }
+    !crossed
 }
 
 // Job i against every job, itself included.
@@ -121,7 +122,7 @@ fn all_apart(m: &[u64], jobs: &[u64]) -> bool
 }
 
 // Numbers 9 to 12, lowest first.
-pub fn owners_verdict(m: &[u64], jobs: &[u64]) -> Verdict
+pub(crate) fn owners_verdict(m: &[u64], jobs: &[u64]) -> Verdict
     requires { ⌜ length (now m) ≤ 131072 ⌝ }
     ensures { λ r. ⌜ r ≡ ownersVerdict (now (m .entry)) (now (jobs .entry)) ⌝ }
 {

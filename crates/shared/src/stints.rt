@@ -23,7 +23,7 @@ fn package_of(jobs: &[u64], job: u64) -> usize
 }
 
 // Runs the stints in the order listed, each on what the one before it left.
-pub fn run_stints(
+pub(crate) fn run_stints(
     m: &mut [u64],
     c: Central,
     jobs: &[u64],

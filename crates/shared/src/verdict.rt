@@ -8,7 +8,13 @@ ghost use mathlib.Core.Path.{_≡_};
 ghost use Rattle.schedule.specs.Refusals.{scheduleVerdict};
 
 // Memory and record, the jobs' package addresses, and the job and the turns of each stint: lowest number first.
-pub fn schedule_verdict(m: &[u64], c: Central, jobs: &[u64], js: &[u64], ts: &[u64]) -> Verdict
+pub(crate) fn schedule_verdict(
+    m: &[u64],
+    c: Central,
+    jobs: &[u64],
+    js: &[u64],
+    ts: &[u64],
+) -> Verdict
     ensures { λ r. ⌜ r ≡ scheduleVerdict (record {
       memory = now (m .entry);
       central = c;

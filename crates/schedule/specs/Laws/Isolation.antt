@@ -13,10 +13,10 @@ use Rattle.exchange.specs.Memory.{part}
 use Rattle.exchange.specs.Package.{coded, decoded}
 use Rattle.single.specs.Laws.Field.{field-kept}
 use Rattle.schedule.specs.Isolation.{Accepted, start, end, packageAddress, fieldIn, ofJob, turnsAsked, NoneButLast, StopsInLastOnly, Isolation, OutsideJob, RestKept, RecordKept}
-use Rattle.schedule.specs.Job.{Job, jobAt, JobEnd, seenByJob, ownStints}
+use Rattle.schedule.specs.Job.{Job, jobAt, JobStint, jobStint, JobEnd, seenByJob, ownStints}
 use Rattle.schedule.specs.Laws.Projection.{projection, record-back, length-back, bounds-back, word-back}
 use Rattle.schedule.specs.Laws.Refusals.{accepted-lists, accepted-ready}
-use Rattle.schedule.specs.Laws.Sum.{Fit, Total, totalOf, oneStint, stints-sum}
+use Rattle.schedule.specs.Laws.Sum.{Fit, totalOf, stints-sum}
 use Rattle.schedule.specs.Ready.{Ready}
 use Rattle.schedule.specs.Schedule.{Schedule}
 
@@ -58,7 +58,7 @@ module _ (s : Schedule) (a : Accepted s) where
         projection (s .jobs) (s .stintJobs) (s .stintTurns) (s .memory) (s .central) ready (accepted-lists s a .listed) i li
 
     -- and, where none but its last stops, one stint of all the turns asked
-    pub as-one-stint : StopsInLastOnly s i → totalOf (seenByJob s i) ≡ oneStint (turnsAsked s i) before
+    pub as-one-stint : StopsInLastOnly s i → totalOf (seenByJob s i) ≡ jobStint (turnsAsked s i) before
     as-one-stint last =
         ap totalOf own-stints-only
         ∙ stints-sum (ofJob i (s .stintJobs) (s .stintTurns)) before job-fit job-clean
@@ -75,12 +75,12 @@ isolation s s′ a a′ i i′ li li′ last last′ alike =
     let same : jobAt (start s) (packageAddress s i) ≡ jobAt (start s′) (packageAddress s′ i′)
     = λ x. record { packageWords = alike .packages x; fieldWords = alike .fields x } in
     let totals : totalOf (seenByJob s i) ≡ totalOf (seenByJob s′ i′)
-    = as-one-stint s a i li last ∙ ap₂ oneStint (alike .asked) same ∙ sym (as-one-stint s′ a′ i′ li′ last′) in
+    = as-one-stint s a i li last ∙ ap₂ jobStint (alike .asked) same ∙ sym (as-one-stint s′ a′ i′ li′ last′) in
     record {
-      packages = ap (λ (t : Total). t .job .packageWords) totals;
-      fields = field-end s a i li ∙ ap (λ (t : Total). t .job .fieldWords) totals ∙ sym (field-end s′ a′ i′ li′);
-      made = ap (λ (t : Total). t .made) totals;
-      stop = ap (λ (t : Total). t .stop) totals;
+      packages = ap (λ (t : JobStint). t .job .packageWords) totals;
+      fields = field-end s a i li ∙ ap (λ (t : JobStint). t .job .fieldWords) totals ∙ sym (field-end s′ a′ i′ li′);
+      made = ap (λ (t : JobStint). t .turns) totals;
+      stop = ap (λ (t : JobStint). t .stop) totals;
     }
 
 pub rest-kept : RestKept

@@ -14,8 +14,8 @@ use Rattle.single.specs.Field.{boundsOf}
 use Rattle.single.specs.Laws.Stint.{stint-outside}
 use Rattle.single.specs.Stint.{StintMemory, stintOf}
 use Rattle.schedule.specs.Isolation.{ofJob}
-use Rattle.schedule.specs.Job.{Job, jobAt, jobRun, jobAfter, JobEnd, runThen, jobStints, partOfJob}
-use Rattle.schedule.specs.Laws.Stint.{may-run, record-kept, length-kept, other-job, own-job, own-turns, own-stop, bounds-kept, ra-kept, fl-kept, still-ready}
+use Rattle.schedule.specs.Job.{Job, jobAt, JobStint, jobStint, JobEnd, jobStintThen, jobStints, leftAt, partOfJob}
+use Rattle.schedule.specs.Laws.Stint.{may-run, record-kept, length-kept, other-job, own-stint, bounds-kept, ra-kept, fl-kept, still-ready}
 use Rattle.schedule.specs.Ready.{Ready, Listed}
 use Rattle.schedule.specs.Schedule.{ScheduleEnd, stintsOf}
 
@@ -36,16 +36,9 @@ module _ (m : List ℕ) (c : Central) (jobs : List ℕ) (r : Ready m c jobs) (i 
   abbrev before : Job
   before = jobAt m (getD jobs i 0)
 
-  own-now : j ≡ i → jobAt (now .memory) (getD jobs i 0) ≡ jobAfter before (jobRun t before)
+  own-now : j ≡ i → leftAt now (getD jobs i 0) ≡ jobStint t before
   own-now e =
-      subst (λ (k : ℕ). jobAt (now .memory) (getD jobs k 0) ≡ jobAfter (jobAt m (getD jobs k 0)) (jobRun t (jobAt m (getD jobs k 0)))) e
-      (own-job m c jobs r j lj t)
-
-  turns-now : j ≡ i → now .end .turns ≡ jobRun t before .end .turns
-  turns-now e = own-turns m c jobs r j lj t ∙ ap (λ (k : ℕ). jobRun t (jobAt m (getD jobs k 0)) .end .turns) e
-
-  stop-now : j ≡ i → now .end .stop ≡ jobRun t before .end .stop
-  stop-now e = own-stop m c jobs r j lj t ∙ ap (λ (k : ℕ). jobRun t (jobAt m (getD jobs k 0)) .end .stop) e
+      subst (λ (k : ℕ). leftAt now (getD jobs k 0) ≡ jobStint t (jobAt m (getD jobs k 0))) e (own-stint m c jobs r j lj t)
 
   step : partOfJob i jobs js later ≡ jobStints (ofJob i js ts) (jobAt (now .memory) (getD jobs i 0))
       → (own : Bool) → eqb j i ≡ own
@@ -58,9 +51,8 @@ module _ (m : List ℕ) (c : Central) (jobs : List ℕ) (r : Ready m c jobs) (i 
       (jobStints (cond own (t ∷ ofJob i js ts) (ofJob i js ts)) before)
   unfolding jobStints
   step rest true e =
-      let q = eqb-true j i e in
-      rw (turns-now q, stop-now q)
-      (ap (runThen (jobRun t before)) (rest ∙ ap (jobStints (ofJob i js ts)) (own-now q)))
+      ap (jobStintThen (leftAt now (getD jobs i 0))) rest
+      ∙ ap (λ (o : JobStint). jobStintThen o (jobStints (ofJob i js ts) (o .job))) (own-now (eqb-true j i e))
   step rest false e = rest ∙ ap (jobStints (ofJob i js ts)) (other-job m c jobs r j lj t i li (eqb-false j i e))
 
 -- the word at w is neither in the package at an address nor in its field

@@ -21,7 +21,7 @@ use Rattle.single.specs.Laws.Stint.{stint-record, stint-outside, stint-length, 
 use Rattle.single.specs.Overlap.{sharesWord}
 use Rattle.single.specs.Stint as Single
 use Rattle.single.specs.Stint.{stintOf}
-use Rattle.schedule.specs.Job.{jobAt, jobRun, jobAfter}
+use Rattle.schedule.specs.Job.{jobAt, jobRun, jobAfter, jobStint, leftAt}
 use Rattle.schedule.specs.Ready.{Ready}
 
 module _ (m : List ℕ) (c : Central) (jobs : List ℕ) (r : Ready m c jobs) (j : ℕ) (lj : j < length jobs) where
@@ -67,16 +67,14 @@ module _ (m : List ℕ) (c : Central) (jobs : List ℕ) (r : Ready m c jobs) (j 
       other-job = rw other-record (λ x. record { packageWords = package-kept x; fieldWords = field-kept x })
 
     -- job j's own
-    pub own-job : jobAt left (at j) ≡ jobAfter (jobAt m (at j)) (jobRun n (jobAt m (at j)))
+    own-job : jobAt left (at j) ≡ jobAfter (jobAt m (at j)) (jobRun n (jobAt m (at j)))
     own-job =
         rw (after-record m c (at j) may-run n)
         (λ x. record { packageWords = stint-package m c (at j) may-run n x; fieldWords = stint-field m c (at j) may-run n x })
 
-    pub own-turns : stintOf m c (at j) n .end .turns ≡ jobRun n (jobAt m (at j)) .end .turns
-    own-turns = stint-turns m c (at j) may-run n
-
-    pub own-stop : stintOf m c (at j) n .end .stop ≡ jobRun n (jobAt m (at j)) .end .stop
-    own-stop = stint-stop m c (at j) may-run n
+    pub own-stint : leftAt (stintOf m c (at j) n) (at j) ≡ jobStint n (jobAt m (at j))
+    own-stint =
+        λ x. record { job = own-job x; turns = stint-turns m c (at j) may-run n x; stop = stint-stop m c (at j) may-run n x }
 
     -- what holds of job j and of every other job holds of each
     each : (P : ℕ → Type 0) → P j → ((i : ℕ) → i < length jobs → (j ≡ i → ⊥) → P i) → (i : ℕ) → i < length jobs → P i

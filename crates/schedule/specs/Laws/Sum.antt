@@ -14,7 +14,7 @@ use Rattle.exchange.specs.declared.record.Central.{Central}
 use Rattle.single.specs.Field.{boundsOf, recordAfter}
 use Rattle.single.specs.Laws.Field.{after-fits-package}
 use Rattle.schedule.specs.Isolation.{sum, lastOf, NoneButLast}
-use Rattle.schedule.specs.Job.{Job, jobRun, jobAfter, JobEnd, jobStints}
+use Rattle.schedule.specs.Job.{Job, jobRun, jobAfter, JobStint, jobStint, JobEnd, jobStints}
 
 -- a job with its widths
 pub record Fit (w : Job) : Type 0 where
@@ -62,27 +62,18 @@ module _ (w : Job) (f : Fit w) (n : ℕ) where
     after-on = rw (run-on, next-record)
 
 -- the job after its stints, the turns made in all and the stop of the last
-pub record Total : Type 0 where
-  pub job : Job
-  pub made : ℕ
-  pub stop : ℕ
+abbrev pub totalOf : JobEnd → JobStint
+totalOf l = record { job = l .job; turns = sum (l .turns); stop = lastOf (l .stops) }
 
-abbrev pub totalOf : JobEnd → Total
-totalOf l = record { job = l .job; made = sum (l .turns); stop = lastOf (l .stops) }
-
--- of one stint
-abbrev pub oneStint : ℕ → Job → Total
-oneStint n w = record { job = jobAfter w (jobRun n w); made = jobRun n w .end .turns; stop = jobRun n w .end .stop }
-
-abbrev madeBefore : ℕ → Total → Total
-madeBefore n o = record { job = o .job; made = n + o .made; stop = o .stop }
+abbrev madeBefore : ℕ → JobStint → JobStint
+madeBefore n o = record { job = o .job; turns = n + o .turns; stop = o .stop }
 
 one-more : (t k : ℕ) (w : Job) → Fit w → jobRun t w .end .stop ≡ 0
-    → madeBefore (jobRun t w .end .turns) (oneStint k (jobAfter w (jobRun t w))) ≡ oneStint (t + k) w
+    → madeBefore (jobRun t w .end .turns) (jobStint k (jobAfter w (jobRun t w))) ≡ jobStint (t + k) w
 one-more t k w f going = rw (after-on w f t k going, run-on w f t k going)
 
 some-stints : (t : ℕ) (ts : List ℕ) (w : Job) → Fit w → NoneButLast (jobStints (t ∷ ts) w .stops)
-    → totalOf (jobStints (t ∷ ts) w) ≡ oneStint (sum (t ∷ ts)) w
+    → totalOf (jobStints (t ∷ ts) w) ≡ jobStint (sum (t ∷ ts)) w
 unfolding jobStints sum lastOf NoneButLast
 some-stints t [] w f last = rw (add-zero t, add-zero (jobRun t w .end .turns))
 some-stints t (u ∷ ts) w f last =
@@ -90,12 +81,12 @@ some-stints t (u ∷ ts) w f last =
     ∙ one-more t (sum (u ∷ ts)) w f (last .0)
 
 -- a stint of no turns leaves a package without stray bits as it was
-no-turns : (w : Job) → coded (decoded (w .packageWords)) ≡ w .packageWords → oneStint 0 w ≡ record { job = w; made = 0; stop = 0 }
+no-turns : (w : Job) → coded (decoded (w .packageWords)) ≡ w .packageWords → jobStint 0 w ≡ record { job = w; turns = 0; stop = 0 }
 unfolding turnsOf decoded
-no-turns w clean = λ x. record { job = record { packageWords = clean x; fieldWords = w .fieldWords }; made = 0; stop = 0 }
+no-turns w clean = λ x. record { job = record { packageWords = clean x; fieldWords = w .fieldWords }; turns = 0; stop = 0 }
 
 pub stints-sum : (ts : List ℕ) (w : Job) → Fit w → coded (decoded (w .packageWords)) ≡ w .packageWords → NoneButLast (jobStints ts w .stops)
-    → totalOf (jobStints ts w) ≡ oneStint (sum ts) w
+    → totalOf (jobStints ts w) ≡ jobStint (sum ts) w
 unfolding jobStints sum lastOf
 stints-sum [] w f clean last = sym (no-turns w clean)
 stints-sum (t ∷ ts) w f clean last = some-stints t ts w f last

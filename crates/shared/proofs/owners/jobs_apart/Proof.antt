@@ -1,7 +1,8 @@
 -- `shared::owners::jobs_apart` meets its contract. Assumes nothing.
+use mathlib.Core.Bool.{and-true, and-false}
 use native.Mathlib.Omega.{arith}
-use borrow.Author.Needs.{needs}
 use borrow.Author.Tests.{eq-eqb, ne-eqb}
+use borrow.Author.Needs.{needs}
 use Rattle.schedule.specs.Refusals.{jobsApart}
 use Rattle.shared.specs.Laws.Owners.{package-inside, package-end, field-end}
 use Rattle.shared.proofs.owners.jobs_apart.Statement.{statement}
@@ -36,55 +37,56 @@ shares-word-requires c κs =
 
 returns : tie.Need-returns
 unfolding jobsApart
-returns c = rw (← c .before .before .load2 .ensures, ← c .before .shares-word .ensures, c .if1 .taken)
-
-returns-2 : tie.Need-returns-2
-unfolding jobsApart
-returns-2 c =
-    let clear = c .before in
-    rw (← clear .before .before .load2 .ensures, ← clear .before .shares-word .ensures, clear .if1 .left, eq-eqb _ _ (c .if2 .taken))
+returns c = rw (← c .before .before .load2 .ensures, ← c .before .shares-word .ensures, eq-eqb _ _ (c .if1 .taken), and-true)
 
 shares-word-requires-2 : tie.Need-shares-word-requires-2
 shares-word-requires-2 c κs =
-    let pre = c .before .before .before .before .before .before .before .before .before .pre in
+    let pre = c .before .before .before .before .before .before .before .before .pre in
     (package-end (pre .0) _ (pre .1 .0), package-end (pre .0) _ (pre .1 .1))
+
+returns-2 : tie.Need-returns-2
+unfolding jobsApart
+returns-2 c = rw (ne-eqb _ _ (c .before .before .if1 .left), ← c .before .shares-word2 .ensures, c .if2 .taken, and-false)
+
+shares-word-requires-3 : tie.Need-shares-word-requires-3
+shares-word-requires-3 c κs =
+    let loaded = c .before .before .before .before in
+    let pre = loaded .before .before .before .before .before .before .pre in
+    rw (loaded .before .load .ensures, loaded .load2 .ensures) (field-end (pre .0) _ (pre .1 .0), field-end (pre .0) _ (pre .1 .1))
 
 returns-3 : tie.Need-returns-3
 unfolding jobsApart
 returns-3 c =
-    let two = c .before .before in
-    let clear = two .before in
+    let packages = c .before .before in
+    let two = packages .before .before in
+    let loaded = two .before .before in
     rw (
-      ← clear .before .before .load2 .ensures,
-      ← clear .before .shares-word .ensures,
-      clear .if1 .left,
-      ne-eqb _ _ (two .if2 .left),
-      ← c .before .shares-word2 .ensures,
+      ne-eqb _ _ (two .if1 .left),
+      ← packages .before .shares-word2 .ensures,
+      packages .if2 .left,
+      ← loaded .load2 .ensures,
+      ← loaded .before .load .ensures,
+      ← c .before .shares-word3 .ensures,
       c .if3 .taken,
+      and-false,
     )
-
-shares-word-requires-3 : tie.Need-shares-word-requires-3
-shares-word-requires-3 c κs =
-    let loaded = c .before .before .before .before .before in
-    let pre = loaded .before .before .before .before .before .before .pre in
-    rw (loaded .before .load .ensures, loaded .load2 .ensures) (field-end (pre .0) _ (pre .1 .0), field-end (pre .0) _ (pre .1 .1))
 
 returns-4 : tie.Need-returns-4
 unfolding jobsApart
 returns-4 c =
-    let packages = c .before in
+    let packages = c .before .before in
     let two = packages .before .before in
-    let clear = two .before in
-    let loaded = clear .before .before in
+    let loaded = two .before .before in
     rw (
-      ← loaded .load2 .ensures,
-      ← clear .before .shares-word .ensures,
-      clear .if1 .left,
-      ne-eqb _ _ (two .if2 .left),
+      ne-eqb _ _ (two .if1 .left),
       ← packages .before .shares-word2 .ensures,
-      packages .if3 .left,
+      packages .if2 .left,
+      ← loaded .load2 .ensures,
       ← loaded .before .load .ensures,
-      ← c .shares-word3 .ensures,
+      ← c .before .shares-word3 .ensures,
+      c .if3 .left,
+      ← two .before .shares-word .ensures,
+      and-true,
     )
 
 pub jobs-apart-spec : {M : Type 1} → statement M
@@ -99,8 +101,8 @@ jobs-apart-spec =
     load-requires-2
     shares-word-requires
     returns
-    returns-2
     shares-word-requires-2
-    returns-3
+    returns-2
     shares-word-requires-3
+    returns-3
     returns-4)
