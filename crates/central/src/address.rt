@@ -22,7 +22,7 @@ pub enum Place {
 }
 
 // The field test: below FL, and RA is added. Nothing else makes an absolute address of a program's number.
-pub fn convert(b: Bounds, a: Relative) -> Place
+pub(crate) fn convert(b: Bounds, a: Relative) -> Place
     requires { ⌜ b .ra + b .fl ≤ 131072 ⌝ }
     ensures { λ r. ⌜ r ≡ placeOf b a ⌝ }
 {
@@ -35,7 +35,7 @@ pub fn convert(b: Bounds, a: Relative) -> Place
 }
 
 // Where a word of the field stands in the part that is lent, which begins at RA.
-pub fn index(b: Bounds, a: Absolute) -> usize
+pub(crate) fn index(b: Bounds, a: Absolute) -> usize
     requires { ⌜ Within b (Place.Inside a) ⌝ }
     ensures { λ n. ⌜ Index b a n ⌝ }
 {

@@ -89,7 +89,7 @@ fn return_jump(f: &mut [u64], b: Bounds, target: u64, word: u64) -> Step
 }
 
 // The effect e, and what follows it; next is the place after the instruction.
-pub fn apply(r: &mut [u64; 24], f: &mut [u64], b: Bounds, e: Effect, next: u64) -> Step
+pub(crate) fn apply(r: &mut [u64; 24], f: &mut [u64], b: Bounds, e: Effect, next: u64) -> Step
     requires { ⌜ Lent b (now f) ⌝ }
     requires { ⌜ Sound e ⌝ }
     ensures { λ o. ⌜ after (now (r .exit)) (now (f .exit)) o ≡ applied (state (now (r .entry)) (now (f .entry))) b e next ⌝ }

@@ -16,7 +16,7 @@ use instruction::instruction::parcels;
 use outcome::stop::CentralStop;
 
 // The instruction at this place of the word w, which stands at p.
-pub fn step(r: &mut [u64; 24], f: &mut [u64], b: Bounds, p: u64, w: u64, place: u64) -> Step
+pub(crate) fn step(r: &mut [u64; 24], f: &mut [u64], b: Bounds, p: u64, w: u64, place: u64) -> Step
     requires { ⌜ Wide (now r) ⌝ }
     requires { ⌜ Lent b (now f) ⌝ }
     requires { ⌜ p < 131072 ⌝ }

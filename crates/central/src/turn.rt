@@ -54,7 +54,7 @@ fn run_word(r: &mut [u64; 24], f: &mut [u64], b: Bounds, p: u64, w: u64) -> Turn
 }
 
 // The word at p is fetched once and run, or the fetch is outside the field.
-pub fn turn(r: &mut [u64; 24], f: &mut [u64], b: Bounds, p: u64) -> TurnEnd
+pub(crate) fn turn(r: &mut [u64; 24], f: &mut [u64], b: Bounds, p: u64) -> TurnEnd
     requires { ⌜ Kept (b .fl) (state (now r) (now f)) ⌝ }
     requires { ⌜ b .ra + b .fl ≤ 131072 ⌝ }
     ensures { λ o. ⌜ turned (state (now (r .exit)) (now (f .exit))) o ≡ turnOf b p (state (now (r .entry)) (now (f .entry))) ⌝ }

@@ -49,7 +49,7 @@ fn registers_in(w: &[u64]) -> [u64; 24]
 }
 
 // The record in a package's sixteen words.
-pub fn decode(w: &[u64]) -> Central
+pub(crate) fn decode(w: &[u64]) -> Central
     requires { ⌜ length (now w) ≡ 16 ⌝ }
     ensures { λ r. ⌜ r ≡ decoded (now (w .entry)) ⌝ }
 {
@@ -102,7 +102,7 @@ fn package_word(c: Central, n: usize) -> u64
 }
 
 // Makes the words a package that holds the record.
-pub fn store(w: &mut [u64], c: Central)
+pub(crate) fn store(w: &mut [u64], c: Central)
     requires { ⌜ (length (now w) ≡ 16) × FitsPackage c ⌝ }
     ensures { λ _. ⌜ now (w .exit) ≡ coded c ⌝ }
 {
@@ -141,7 +141,7 @@ fn words_have_no_stray(w: &[u64]) -> bool
 }
 
 // A stray bit is set in a package's sixteen words.
-pub fn package_has_stray(w: &[u64]) -> bool
+pub(crate) fn package_has_stray(w: &[u64]) -> bool
     requires { ⌜ length (now w) ≡ 16 ⌝ }
     ensures { λ r. ⌜ r ≡ hasStray (now (w .entry)) ⌝ }
 {

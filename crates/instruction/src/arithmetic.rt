@@ -12,7 +12,7 @@ use word::sums::difference60;
 use word::sums::sum60;
 
 // Code 3m.
-pub fn sum_of(r: &[u64; 24], q: Instruction, m: u64) -> Effect
+pub(crate) fn sum_of(r: &[u64; 24], q: Instruction, m: u64) -> Effect
     requires { ⌜ Wide (now r) ⌝ }
     requires { ⌜ Fit q ⌝ }
     ensures { λ e. ⌜ e ≡ sumOf (now (r .entry)) q m ⌝ }
@@ -28,7 +28,7 @@ pub fn sum_of(r: &[u64; 24], q: Instruction, m: u64) -> Effect
 }
 
 // Code 4m.
-pub fn mask_or_count_of(r: &[u64; 24], q: Instruction, m: u64) -> Effect
+pub(crate) fn mask_or_count_of(r: &[u64; 24], q: Instruction, m: u64) -> Effect
     requires { ⌜ Wide (now r) ⌝ }
     requires { ⌜ Fit q ⌝ }
     ensures { λ e. ⌜ e ≡ maskOrCountOf (now (r .entry)) q m ⌝ }

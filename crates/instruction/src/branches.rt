@@ -22,7 +22,7 @@ fn return_word(p: u64) -> u64
 }
 
 // Code 0m in the word at p.
-pub fn effect_of(r: &[u64; 24], q: Instruction, m: u64, p: u64) -> Effect
+pub(crate) fn effect_of(r: &[u64; 24], q: Instruction, m: u64, p: u64) -> Effect
     requires { ⌜ Wide (now r) ⌝ }
     requires { ⌜ Fit q ⌝ }
     requires { ⌜ m < 8 ⌝ }

@@ -12,7 +12,7 @@ use word::sums::low18;
 use word::sums::sum18;
 
 // Codes 5m, 6m and 7m.
-pub fn operand(r: &[u64; 24], q: Instruction, m: u64) -> u64
+pub(crate) fn operand(r: &[u64; 24], q: Instruction, m: u64) -> u64
     requires { ⌜ Wide (now r) ⌝ }
     requires { ⌜ Fit q ⌝ }
     requires { ⌜ m < 8 ⌝ }

@@ -25,7 +25,7 @@ fn unpack_to(i: usize, j: usize, x: u64) -> Effect
 }
 
 // Code 2m.
-pub fn effect_of(r: &[u64; 24], q: Instruction, m: u64) -> Effect
+pub(crate) fn effect_of(r: &[u64; 24], q: Instruction, m: u64) -> Effect
     requires { ⌜ Wide (now r) ⌝ }
     requires { ⌜ Fit q ⌝ }
     requires { ⌜ m < 8 ⌝ }

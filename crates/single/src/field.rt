@@ -13,7 +13,7 @@ pub struct Ran {
 }
 
 // Up to n turns of a running processor.
-pub fn run(m: &mut [u64], c: Central, n: u64) -> Ran
+pub(crate) fn run(m: &mut [u64], c: Central, n: u64) -> Ran
     requires { ⌜ HostAccepted (now m) c ⌝ }
     ensures { λ o. ⌜ ranTo (now (m .exit)) o ≡ ranOn (now (m .entry)) c n ⌝ }
 {
