@@ -101,17 +101,20 @@ Isolation =
     → StopsInLastOnly s i → StopsInLastOnly s′ i′
     → Alike s i s′ i′ → EndsAlike s i s′ i′
 
--- the word at an address is neither in job i's package nor in its field
-pub record OutsideJob (s : Schedule) (x i : ℕ) : Type 0 where
-  pub package-free : (x < packageAddress s i) ⊎ (packageAddress s i + 16 ≤ x)
-  pub field-free : (x < firstRecord s i .ra) ⊎ (firstRecord s i .ra + firstRecord s i .fl ≤ x)
+-- in memory m the word at x is neither in the package at an address nor in the field of that package
+pub record Outside (m : List ℕ) (at x : ℕ) : Type 0 where
+  pub package-free : (x < at) ⊎ (at + 16 ≤ x)
+  pub field-free : (x < recordAt m at .ra) ⊎ (recordAt m at .ra + recordAt m at .fl ≤ x)
+
+abbrev pub OutsideJobs : Schedule → ℕ → Type 0
+OutsideJobs s x = (i : ℕ) → i < length (s .jobs) → Outside (start s) (packageAddress s i) x
 
 -- "and no word outside the listed packages and fields changes"; memory keeps its length
 abbrev pub RestKept : Type 0
 RestKept =
     (s : Schedule) → Accepted s
     → (length (end s) ≡ length (start s))
-    × ((x : ℕ) → ((i : ℕ) → i < length (s .jobs) → OutsideJob s x i) → getD (end s) x 0 ≡ getD (start s) x 0)
+    × ((x : ℕ) → OutsideJobs s x → getD (end s) x 0 ≡ getD (start s) x 0)
 
 -- "A schedule hands the central record back as it was, stop included."
 abbrev pub RecordKept : Type 0

@@ -12,7 +12,7 @@ use Rattle.exchange.specs.Laws.Verdicts.{HostAccepted, of-package-accepted}
 use Rattle.exchange.specs.Memory.{part}
 use Rattle.exchange.specs.Package.{coded, decoded}
 use Rattle.single.specs.Laws.Field.{field-kept}
-use Rattle.schedule.specs.Isolation.{Accepted, start, end, packageAddress, fieldIn, ofJob, turnsAsked, NoneButLast, StopsInLastOnly, Isolation, OutsideJob, RestKept, RecordKept}
+use Rattle.schedule.specs.Isolation.{Accepted, start, end, packageAddress, fieldIn, ofJob, turnsAsked, NoneButLast, StopsInLastOnly, Isolation, RestKept, RecordKept}
 use Rattle.schedule.specs.Job.{Job, jobAt, JobStint, jobStint, JobEnd, seenByJob, ownStints}
 use Rattle.schedule.specs.Laws.Projection.{projection, record-back, length-back, bounds-back, word-back}
 use Rattle.schedule.specs.Laws.Refusals.{accepted-lists, accepted-ready}
@@ -87,8 +87,7 @@ pub rest-kept : RestKept
 rest-kept s a =
     let l = accepted-lists s a .listed in (
       length-back (s .jobs) (s .stintJobs) (s .stintTurns) (s .memory) (s .central) (accepted-ready s a) l,
-      λ x out. word-back (s .jobs) (s .stintJobs) (s .stintTurns) (s .memory) (s .central) (accepted-ready s a) l x
-          (λ i li. let o : OutsideJob s x i = out i li in (o .package-free, o .field-free)),
+      word-back (s .jobs) (s .stintJobs) (s .stintTurns) (s .memory) (s .central) (accepted-ready s a) l,
     )
 
 pub record-kept : RecordKept

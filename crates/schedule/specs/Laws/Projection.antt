@@ -1,9 +1,8 @@
 -- What a job sees of a schedule is the fold of its own stints, whatever stands between them; the record and all other words stay. Assumes nothing.
 use mathlib.Core.Bool.{Bool, true, false, cond}
 use mathlib.Core.List.{List, [], _∷_}
-use mathlib.Core.Logic.{_⊎_}
 use mathlib.Core.Path.{_≡_, refl, ap, subst, _∙_}
-use Prim.Native.Nat.{ℕ, suc, _+_, _≤_, _<_}
+use Prim.Native.Nat.{ℕ, suc, _<_}
 use native.Mathlib.Omega.{arith}
 use borrow.Author.Tests.{eqb-true, eqb-false}
 use lib.Dec.{eqb}
@@ -13,7 +12,7 @@ use Rattle.exchange.specs.declared.record.Central.{Central}
 use Rattle.single.specs.Field.{boundsOf}
 use Rattle.single.specs.Laws.Stint.{stint-outside}
 use Rattle.single.specs.Stint.{StintMemory, stintOf}
-use Rattle.schedule.specs.Isolation.{ofJob}
+use Rattle.schedule.specs.Isolation.{ofJob, Outside}
 use Rattle.schedule.specs.Job.{Job, jobAt, JobStint, jobStint, JobEnd, jobStintThen, jobStints, leftAt, partOfJob}
 use Rattle.schedule.specs.Laws.Stint.{may-run, record-kept, length-kept, other-job, own-stint, bounds-kept, ra-kept, fl-kept, still-ready}
 use Rattle.schedule.specs.Ready.{Ready, Listed}
@@ -54,10 +53,6 @@ module _ (m : List ℕ) (c : Central) (jobs : List ℕ) (r : Ready m c jobs) (i 
       ap (jobStintThen (leftAt now (getD jobs i 0))) rest
       ∙ ap (λ (o : JobStint). jobStintThen o (jobStints (ofJob i js ts) (o .job))) (own-now (eqb-true j i e))
   step rest false e = rest ∙ ap (jobStints (ofJob i js ts)) (other-job m c jobs r j lj t i li (eqb-false j i e))
-
--- the word at w is neither in the package at an address nor in its field
-abbrev Outside : List ℕ → ℕ → ℕ → Type 0
-Outside m w at = ((w < at) ⊎ (at + 16 ≤ w)) × ((w < recordAt m at .ra) ⊎ (recordAt m at .ra + recordAt m at .fl ≤ w))
 
 module _ (jobs : List ℕ) where
   pub projection : (js ts m : List ℕ) (c : Central) → Ready m c jobs → Listed jobs js → (i : ℕ) → i < length jobs
@@ -103,11 +98,14 @@ module _ (jobs : List ℕ) where
         (λ x d q j lj t e. bounds-kept x d jobs q j lj t i li ∙ e) js ts m c r l refl
 
     -- a word outside every package and field stays
-    pub word-back : (w : ℕ) → ((i : ℕ) → i < length jobs → Outside m w (getD jobs i 0)) → getD (end .memory) w 0 ≡ getD m w 0
+    pub word-back : (w : ℕ) → ((i : ℕ) → i < length jobs → Outside m (getD jobs i 0) w) → getD (end .memory) w 0 ≡ getD m w 0
     word-back w out =
-        stints-keep (λ x d. (getD x w 0 ≡ getD m w 0) × ((i : ℕ) → i < length jobs → Outside x w (getD jobs i 0)))
+        stints-keep (λ x d. (getD x w 0 ≡ getD m w 0) × ((i : ℕ) → i < length jobs → Outside x (getD jobs i 0) w))
         (λ x d q j lj t h. (
-          stint-outside x d (getD jobs j 0) (may-run x d jobs q j lj) t w (h .1 j lj .0) (h .1 j lj .1) ∙ h .0,
-          λ i li. (h .1 i li .0, rw (ra-kept x d jobs q j lj t i li, fl-kept x d jobs q j lj t i li) (h .1 i li .1)),
+          stint-outside x d (getD jobs j 0) (may-run x d jobs q j lj) t w (h .1 j lj .package-free) (h .1 j lj .field-free) ∙ h .0,
+          λ i li. record {
+            package-free = h .1 i li .package-free;
+            field-free = rw (ra-kept x d jobs q j lj t i li, fl-kept x d jobs q j lj t i li) (h .1 i li .field-free);
+          },
         ))
         js ts m c r l (refl, out) .0

@@ -9,7 +9,7 @@ use Rattle.outcome.specs.declared.refusal.Verdict.the-variants as Call
 use Rattle.outcome.specs.declared.refusal.Verdict.{Verdict}
 use Rattle.exchange.specs.declared.record.Central.{Central}
 use Rattle.single.specs.Stint.{stintOf}
-use Rattle.schedule.specs.Isolation.{Accepted, start, packageIn, fieldIn, ofJob, sum, lastOf, NoneButLast, Alike, OutsideJob}
+use Rattle.schedule.specs.Isolation.{Accepted, start, packageIn, fieldIn, ofJob, sum, lastOf, NoneButLast, Alike, OutsideJobs}
 use Rattle.schedule.specs.Laws.Isolation.{isolation, rest-kept, record-kept}
 use Rattle.schedule.specs.Laws.Refusals.{accepted-lists}
 use Rattle.schedule.specs.Refusals.{scheduleVerdict}
@@ -108,5 +108,5 @@ module _ (s : Schedule) (count : length (s .central .registers) ≡ 24) where
   pub length-back : length (scheduleAnswer s .memory) ≡ length (start s)
   length-back = either (λ o. length (o .memory) ≡ length (start s)) (λ a. rest-kept s a .0) (λ r. refl)
 
-  pub word-back : (x : ℕ) → ((i : ℕ) → i < length (s .jobs) → OutsideJob s x i) → getD (scheduleAnswer s .memory) x 0 ≡ getD (start s) x 0
+  pub word-back : (x : ℕ) → OutsideJobs s x → getD (scheduleAnswer s .memory) x 0 ≡ getD (start s) x 0
   word-back x out = either (λ o. getD (o .memory) x 0 ≡ getD (start s) x 0) (λ a. rest-kept s a .1 x out) (λ r. refl)
