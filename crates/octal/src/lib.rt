@@ -1,3 +1,4 @@
 // Numbers as text in octal digits.
 pub mod read;
+pub mod text;
 pub mod write;

@@ -13,7 +13,7 @@ fn digit(v: u64, k: usize) -> u8
 }
 
 // The last n digits of v, from this place on.
-pub(crate) fn write_digits(out: &mut [u8], at: usize, n: usize, v: u64) -> usize
+pub fn write_digits(out: &mut [u8], at: usize, n: usize, v: u64) -> usize
     requires { ⌜ (n ≤ 22) × (at + n ≤ length (now out)) ⌝ }
     ensures { λ r. ⌜ Wrote (now (out .entry)) at (digits n v) (now (out .exit)) r ⌝ }
 {

@@ -1,5 +1,5 @@
 -- What a test of every number below n says of each, and the entries of a list by its entries. Assumes nothing.
-use mathlib.Core.Bool.{Bool, true, false, _&&_, and-false}
+use mathlib.Core.Bool.{Bool, true, false, and-false}
 use mathlib.Core.List.{List, [], _∷_, _++_}
 use mathlib.Core.Logic.{⊎-elim}
 use mathlib.Core.Path.{_≡_, refl, sym, ap, _∙_}
@@ -9,12 +9,8 @@ use native.Mathlib.Omega.{arith}
 use lib.ListN.{length, getD, set, take, length-append, List·getD-append}
 use lib.Seq.{take-suc-set, take-all, getD-at}
 use Rattle.word.specs.Laws.Choice.{le-or-lt}
+use Rattle.word.specs.Laws.Tests.{both}
 use Rattle.exchange.specs.Indexed.{all, tabulate}
-
--- both halves of a test that holds
-pub both : (a b : Bool) → a && b ≡ true → (a ≡ true) × (b ≡ true)
-both true b e = (refl, e)
-both false b e = let z : _≡_ {A = ℕ} 0 1 = cc in absurd (omega arith)
 
 module _ (test : ℕ → Bool) where
   pub all-more : (n : ℕ) → all n test ≡ true → test n ≡ true → all (n + 1) test ≡ true

@@ -19,7 +19,8 @@ use Rattle.exchange.specs.declared.record.Central.{Central}
 use Rattle.exchange.specs.Indexed.{all, tabulate}
 use Rattle.exchange.specs.Record.{emFits, registerWidth, recordFits, running, FitsPackage}
 use Rattle.exchange.specs.Package.{controls, packageWord, coded, registerIn, controlIn, decoded, bitsInUse, wordHasNoStray, hasStray}
-use Rattle.exchange.specs.Laws.Indexed.{both, all-at, all-of, length-tabulate, getD-tabulate}
+use Rattle.word.specs.Laws.Tests.{both}
+use Rattle.exchange.specs.Laws.Indexed.{all-at, all-of, length-tabulate, getD-tabulate}
 use Rattle.exchange.specs.Laws.Record.{each-register, em-width, a-width, b-width, x-width, of-fits}
 
 pub control-width : (c : Central) → FitsPackage c → (n : ℕ) → getD (controls c) n 0 < 2 ^ 18

@@ -13,7 +13,8 @@ use Rattle.word.specs.Laws.Choice.{le-or-lt}
 use Rattle.instruction.specs.Registers.{aOf, bOf, xOf}
 use Rattle.exchange.specs.declared.record.Central.{Central}
 use Rattle.exchange.specs.Record.{emFits, registerWidth, registerFits, registersFit, recordFits, FitsPackage, wordFits, wordsFit}
-use Rattle.exchange.specs.Laws.Indexed.{both, all-at, all-of}
+use Rattle.word.specs.Laws.Tests.{both}
+use Rattle.exchange.specs.Laws.Indexed.{all-at, all-of}
 
 -- what holds of the places of A, of B and of X holds of each of the 24 places
 pub each-register : (P : ℕ → Type 0)

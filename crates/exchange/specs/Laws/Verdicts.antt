@@ -15,7 +15,7 @@ use Rattle.exchange.specs.Record.{recordFits, wordsFit, hostVerdict}
 use Rattle.exchange.specs.Memory.{part}
 use Rattle.exchange.specs.Package.{hasStray}
 use Rattle.exchange.specs.Jump.{recordAt, packageVerdict}
-use Rattle.exchange.specs.Laws.Indexed.{both}
+use Rattle.word.specs.Laws.Tests.{both}
 
 -- accepted where a test passes
 pub by-test : (t : Bool) (v : Verdict) (r : Refusal) → cond t v (Call.Refused r) ≡ Call.Accepted → (t ≡ true) × (v ≡ Call.Accepted)

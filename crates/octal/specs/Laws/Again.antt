@@ -1,17 +1,19 @@
 -- The reader gives back the number that the writer wrote. Assumes nothing.
 use mathlib.Core.List.{List, [], _∷_, _++_}
 use mathlib.Core.Path.{_≡_, refl, sym, ap, subst, _∙_}
-use Prim.Native.Nat.{ℕ, zero, suc, _+_, _*_, _/_, _%_, _^_, _<_}
+use Prim.Native.Nat.{ℕ, zero, suc, _+_, _-_, _*_, _/_, _%_, _^_, _<_}
 use native.Mathlib.Nat.{add-assoc, add-mul, mul-assoc, mod-lt, mod-eq-of-lt}
 use native.Mathlib.Omega.{arith}
-use borrow.Author.Tests.{eqb-true}
+use borrow.Author.Tests.{eqb-true, le-leb}
 use lib.Dec.{lit<, eqb}
 use lib.Pow.{pow-pos, pow-add, shr-lt, mod-pow-add, split}
 use Rattle.word.specs.Laws.Choice.{of-cond}
 use Rattle.octal.specs.Read.{noDigits}
+use Rattle.octal.specs.Text.{valueAfter, valueOf}
 use Rattle.octal.specs.Write.{digits, widthIn, octal}
 use Rattle.octal.specs.Laws.Read.{bytesOf, valueFrom, Octal, feedAll, digits-then-space}
 use Rattle.octal.specs.declared.read.Fed.the-variants.{More, Number}
+use Rattle.octal.specs.declared.text.Value.the-variants.{Of}
 
 -- the last n octal digits of v, each as a number below 8
 unfoldable digitValues : ℕ → ℕ → List ℕ
@@ -76,3 +78,16 @@ read-digits (suc n) v p h k =
 pub read-octal : (v : ℕ) → v < 2 ^ 64 → feedAll (More noDigits) (octal v ++ (32 ∷ [])) ≡ Number v
 unfolding octal
 read-octal v h = read-digits (widthIn 21 v) v (width-positive 21 v) (width-holds 21 v (omega (arith, h))) h
+
+-- and so is one that is written with n digits, if these hold it, and read as a whole
+text-bytes : (u : ℕ) (ns : List ℕ) → Octal ns → valueAfter u (bytesOf ns) ≡ Of (valueFrom u ns)
+unfolding valueAfter bytesOf valueFrom
+text-bytes u [] o = refl
+text-bytes u (n ∷ ns) o =
+    let e : 48 + n - 48 ≡ n = omega arith in
+    rw (le-leb 48 (48 + n) (omega arith), le-leb (48 + n) 55 (omega (arith, o .0)), e) (text-bytes (u * 8 + n) ns (o .1))
+
+pub read-text : (n v : ℕ) → v < 2 ^ (3 * n) → valueOf (digits n v) ≡ Of v
+read-text n v h =
+    rw (bytes-are n v)
+    (text-bytes 0 (digitValues n v) (octal-values n v) ∙ ap (λ (x : ℕ). Of x) (values-are 0 n v ∙ rw (mod-eq-of-lt h) (omega arith)))

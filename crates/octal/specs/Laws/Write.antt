@@ -1,12 +1,11 @@
--- Laws of writing, as the loops of the writer use them. Assumes nothing.
-use mathlib.Core.List.{List}
-use mathlib.Core.Path.{_≡_, refl, sym, ap, _∙_}
+-- Laws of writing, as loops that write use them. Assumes nothing.
+use mathlib.Core.List.{List, [], _∷_, _++_}
+use mathlib.Core.Path.{_≡_, refl, ap, _∙_}
 use Prim.Native.Nat.{ℕ, zero, suc, _+_, _-_, _*_, _/_, _%_, _^_, _≤_, _<_}
-use native.Mathlib.Numerals.{add-one}
 use native.Mathlib.Omega.{arith}
 use borrow.Author.Tests.{eq-eqb, ne-eqb}
 use lib.Dec.{eqb}
-use lib.ListN.{length, set, length-set}
+use lib.ListN.{length, set, length-append}
 use lib.Seq.{sets, length-sets}
 use Rattle.word.specs.Laws.Choice.{of-cond}
 use Rattle.octal.specs.Write.{digitOf, digits, widthIn, octal, Wrote}
@@ -15,6 +14,29 @@ use Rattle.octal.specs.Write.{digitOf, digits, widthIn, octal, Wrote}
 pub length-wrote : {before after : List ℕ} {at next : ℕ} {bytes : List ℕ} → Wrote before at bytes after next
     → length after ≡ length before
 length-wrote {before = before} {at = at} {bytes = bytes} w = ap length (w .is) ∙ length-sets before at bytes
+
+-- to write nothing
+pub wrote-none : (out : List ℕ) (at : ℕ) → Wrote out at [] out at
+wrote-none out at = record { is = refl; ends = omega arith }
+
+-- to write one byte
+pub wrote-byte : (out : List ℕ) (at byte : ℕ) → Wrote out at (byte ∷ []) (set out at byte) (at + 1)
+wrote-byte out at byte = record { is = refl; ends = refl }
+
+sets-append : (out : List ℕ) (at : ℕ) (xs ys : List ℕ) → sets (sets out at xs) (at + length xs) ys ≡ sets out at (xs ++ ys)
+sets-append out at [] ys = let e : at + 0 ≡ at = omega arith in rw e
+sets-append out at (x ∷ xs) ys =
+    let e : at + suc (length xs) ≡ suc at + length xs = omega arith in
+    rw e (sets-append (set out at x) (suc at) xs ys)
+
+-- to write some bytes and then others is to write them all
+pub wrote-then : {first second third : List ℕ} {at next end : ℕ} {xs ys : List ℕ} → Wrote first at xs second next
+    → Wrote second next ys third end → Wrote first at (xs ++ ys) third end
+wrote-then {first = first} {at = at} {xs = xs} {ys = ys} v w =
+    record {
+      is = w .is ∙ rw (v .is, v .ends) (sets-append first at xs ys);
+      ends = simp length-append (omega (arith, v .ends, w .ends));
+    }
 
 pub length-digits : (n v : ℕ) → length (digits n v) ≡ n
 unfolding digits
@@ -32,33 +54,52 @@ pub length-octal : (v : ℕ) → length (octal v) ≤ 22
 unfolding octal
 length-octal v = rw length-digits (width-le 21 v)
 
--- the loop of `write_digits` at place i with k digits left: to write them is to write all
-pub record Writing (before : List ℕ) (at n v : ℕ) (out : List ℕ) (i k : ℕ) : Type 0 where
-  pub is : sets out i (digits k v) ≡ sets before at (digits n v)
-  pub total : i + k ≡ at + n
+-- a loop that writes `all` from `at` on, at the place `next`, with these bytes left: to write them is to write all
+pub record Writing (before : List ℕ) (at : ℕ) (all out : List ℕ) (next : ℕ) (left : List ℕ) : Type 0 where
+  pub is : sets out next left ≡ sets before at all
+  pub total : next + length left ≡ at + length all
   pub same-length : length out ≡ length before
 
-pub writing-start : (before : List ℕ) (at n v : ℕ) → Writing before at n v before at n
-writing-start before at n v = record { is = refl; total = refl; same-length = refl }
+pub writing-start : (before : List ℕ) (at : ℕ) (all : List ℕ) → Writing before at all before at all
+writing-start before at all = record { is = refl; total = refl; same-length = refl }
 
-next-digit : (out : List ℕ) (i k v : ℕ) → 0 < k → sets (set out i (digitOf v (k - 1))) (i + 1) (digits (k - 1) v) ≡ sets out i (digits k v)
+pub writing-next : {before all out after left bytes rest : List ℕ} {at next end : ℕ} → Writing before at all out next left
+    → left ≡ bytes ++ rest → Wrote out next bytes after end → Writing before at all after end rest
+writing-next {out = out} {bytes = bytes} {rest = rest} {next = next} g e w =
+    record {
+      is = rw (w .is, w .ends) (sets-append out next bytes rest ∙ rw (← e) (g .is));
+      total = rw (w .ends) (omega (arith, g .total, ap length e ∙ length-append bytes rest));
+      same-length = length-wrote w ∙ g .same-length;
+    }
+
+pub writing-end : {before all out left : List ℕ} {at next : ℕ} → Writing before at all out next left → left ≡ []
+    → Wrote before at all out next
+writing-end g e =
+    record { is = rw e at (g .is); ends = omega (arith, g .total, ap length e) }
+
+-- the loop of `write_digits`, with k of n digits left
+pub digits-total : {before out : List ℕ} {at i : ℕ} (n v k : ℕ) → Writing before at (digits n v) out i (digits k v)
+    → i + k ≡ at + n
+digits-total n v k g = omega (arith, g .total, length-digits n v, length-digits k v)
+
+next-digit : (k v : ℕ) → 0 < k → digits k v ≡ (digitOf v (k - 1) ∷ []) ++ digits (k - 1) v
 unfolding digits
-next-digit out i zero v h = absurd (omega arith)
-next-digit out i (suc k) v h = let e : suc k - 1 ≡ k = omega arith in rw (e, add-one)
+next-digit zero v h = absurd (omega arith)
+next-digit (suc k) v h = let e : suc k - 1 ≡ k = omega arith in rw e
 
-pub writing-next : {before out : List ℕ} {at n v i k d : ℕ} → Writing before at n v out i k → 0 < k → d ≡ digitOf v (k - 1)
-    → Writing before at n v (set out i d) (i + 1) (k - 1)
-writing-next {out = out} {v = v} {i = i} {k = k} w h e =
-    record { is = rw e (next-digit out i k v h ∙ w .is); total = omega (arith, w .total); same-length = simp length-set (w .same-length) }
+pub digits-next : {before out : List ℕ} {at i d : ℕ} (n v k : ℕ) → Writing before at (digits n v) out i (digits k v) → 0 < k
+    → d ≡ digitOf v (k - 1) → Writing before at (digits n v) (set out i d) (i + 1) (digits (k - 1) v)
+digits-next {out = out} {i = i} n v k g h e =
+    rw e (writing-next g (next-digit k v h) (wrote-byte out i (digitOf v (k - 1))))
 
-no-digits : (out : List ℕ) (i k v : ℕ) → k ≡ 0 → sets out i (digits k v) ≡ out
+no-digits : (k v : ℕ) → k ≡ 0 → digits k v ≡ []
 unfolding digits
-no-digits out i zero v e = refl
-no-digits out i (suc k) v e = absurd (omega arith)
+no-digits zero v e = refl
+no-digits (suc k) v e = absurd (omega arith)
 
-pub writing-end : {before out : List ℕ} {at n v i k : ℕ} → Writing before at n v out i k → k ≡ 0 → Wrote before at (digits n v) out i
-writing-end {out = out} {n = n} {v = v} {i = i} {k = k} w e =
-    record { is = sym (no-digits out i k v e) ∙ w .is; ends = rw (length-digits n v) (omega (arith, w .total)) }
+pub digits-end : {before out : List ℕ} {at i : ℕ} (n v k : ℕ) → Writing before at (digits n v) out i (digits k v) → k ≡ 0
+    → Wrote before at (digits n v) out i
+digits-end n v k g e = writing-end g (no-digits k v e)
 
 -- the loop of `width`: a digit that is not zero ends it, a zero leaves the width to the digits below
 pub width-found : (k v : ℕ) → 0 < k → (v / 2 ^ (3 * k) % 8 ≡ 0 → ⊥) → k + 1 ≡ widthIn k v

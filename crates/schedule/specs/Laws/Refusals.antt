@@ -8,7 +8,8 @@ use lib.Dec.{ltb, leb, eqb}
 use lib.ListN.{length, getD}
 use Rattle.outcome.specs.declared.refusal.Verdict.the-variants as Call
 use Rattle.exchange.specs.Jump.{recordAt}
-use Rattle.exchange.specs.Laws.Indexed.{both, all-at}
+use Rattle.word.specs.Laws.Tests.{both}
+use Rattle.exchange.specs.Laws.Indexed.{all-at}
 use Rattle.exchange.specs.Laws.Verdicts.{by-test, HostAccepted, PackageAccepted, host-accepted}
 use Rattle.exchange.specs.Memory.{part}
 use Rattle.exchange.specs.Package.{hasStray}

@@ -35,12 +35,12 @@ pub record AnswersAlike (s : Schedule) (i : ℕ) (s′ : Schedule) (i′ : ℕ) 
   pub stop : lastOf (stopsOfJob s i) ≡ lastOf (stopsOfJob s′ i′)
 
 -- the answer's verdict
-same-verdict : (v : Verdict) (s : Schedule) → answerBy v s .answer .verdict ≡ v
+pub same-verdict : (v : Verdict) (s : Schedule) → answerBy v s .answer .verdict ≡ v
 same-verdict Call.Accepted s = refl
 same-verdict (Call.Refused r) s = refl
 
 -- an entry for each stint
-one-each : (jobs js ts m : List ℕ) (c : Central) → length js ≡ length ts
+pub one-each : (jobs js ts m : List ℕ) (c : Central) → length js ≡ length ts
     → (length (stintsOf jobs js ts m c .turns) ≡ length js) × (length (stintsOf jobs js ts m c .stops) ≡ length js)
 unfolding stintsOf
 one-each jobs [] ts m c e = (refl, refl)

@@ -2,17 +2,18 @@
 use Prim.Native.Nat.{_≤_}
 use native.Mathlib.Omega.{arith}
 use Rattle.octal.proofs.write.write_digits.Tie as tie
-use Rattle.octal.specs.Laws.Write.{Writing, writing-start, writing-next, writing-end}
+use Rattle.octal.specs.Write.{digits}
+use Rattle.octal.specs.Laws.Write.{Writing, writing-start, digits-total, digits-next, digits-end}
 use Rattle.octal.proofs.write.write_digits.Statement.{statement}
 
 abbrev Inv-loop : tie.InvT-loop
-Inv-loop out₀ at n v i₀ k₀ out i k = (k ≤ n) × Writing out₀ at n v out i k
+Inv-loop out₀ at n v i₀ k₀ out i k = (k ≤ n) × Writing out₀ at (digits n v) out i (digits k v)
 
 abbrev μ-loop : tie.MeasureT-loop
 μ-loop out₀ at n v i₀ k₀ out i k = k
 
 loop-holds : tie.Need-loop-holds Inv-loop μ-loop
-loop-holds c = (omega arith, writing-start _ _ _ _)
+loop-holds c = (omega arith, writing-start _ _ _)
 
 sub-k : tie.Need-sub-k Inv-loop μ-loop
 sub-k c = omega arith
@@ -21,22 +22,22 @@ digit-requires : tie.Need-digit-requires Inv-loop μ-loop
 digit-requires c κs = omega arith
 
 slice-write-out : tie.Need-slice-write-out Inv-loop μ-loop
-slice-write-out c = omega (arith, c .before .before .loop .inv .1 .total, c .before .before .loop .inv .1 .same-length)
+slice-write-out c = omega (arith, digits-total _ _ _ (c .before .before .loop .inv .1), c .before .before .loop .inv .1 .same-length)
 
 add-i : tie.Need-add-i Inv-loop μ-loop
-add-i c = omega (arith, c .before .before .loop .inv .1 .total)
+add-i c = omega (arith, digits-total _ _ _ (c .before .before .loop .inv .1))
 
 loop-less : tie.Need-loop-less Inv-loop μ-loop
 loop-less c = omega arith
 
 loop-again : tie.Need-loop-again Inv-loop μ-loop
-loop-again c = (omega arith, writing-next (c .before .before .loop .inv .1) (c .before .loop-test .taken) (c .digit .ensures))
+loop-again c = (omega arith, digits-next _ _ _ (c .before .before .loop .inv .1) (c .before .loop-test .taken) (c .digit .ensures))
 
 same-length : tie.Need-same-length Inv-loop μ-loop
 same-length c = c .before .loop .inv .1 .same-length
 
 returns : tie.Need-returns Inv-loop μ-loop
-returns c = writing-end (c .before .loop .inv .1) (omega arith)
+returns c = digits-end _ _ _ (c .before .loop .inv .1) (omega arith)
 
 pub write-digits-spec : {M : Type 1} → statement M
 write-digits-spec =

@@ -1,7 +1,7 @@
 -- `shared::lists::lists_verdict` meets its contract. Assumes nothing.
 use borrow.Author.Needs.{needs}
 use Rattle.schedule.specs.Refusals.{listsVerdict}
-use Rattle.shared.specs.Laws.Tests.{holds, fails}
+use Rattle.word.specs.Laws.Tests.{holds, fails}
 use Rattle.shared.proofs.lists.lists_verdict.Statement.{statement}
 use Rattle.shared.proofs.lists.lists_verdict.Tie as tie
 

@@ -5,7 +5,7 @@ use lib.ListN.{length}
 use Rattle.exchange.specs.Indexed.{all}
 use Rattle.exchange.specs.Laws.Indexed.{Passed, none-yet, one-more, all-passed, one-fails}
 use Rattle.schedule.specs.Refusals.{jobsApart, allApart}
-use Rattle.shared.specs.Laws.Tests.{holds, fails}
+use Rattle.word.specs.Laws.Tests.{holds, fails}
 use Rattle.shared.proofs.owners.all_apart.Statement.{statement}
 use Rattle.shared.proofs.owners.all_apart.Tie as tie
 

@@ -4,7 +4,7 @@ use native.Mathlib.Omega.{arith}
 use lib.ListN.{length}
 use Rattle.exchange.specs.Laws.Indexed.{Passed, none-yet, one-more, all-passed, one-fails}
 use Rattle.schedule.specs.Refusals.{jobsApart}
-use Rattle.shared.specs.Laws.Tests.{holds, fails}
+use Rattle.word.specs.Laws.Tests.{holds, fails}
 use Rattle.shared.proofs.owners.apart_from_all.Statement.{statement}
 use Rattle.shared.proofs.owners.apart_from_all.Tie as tie
 

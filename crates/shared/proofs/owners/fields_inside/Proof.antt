@@ -6,7 +6,7 @@ use lib.ListN.{length, getD}
 use Rattle.exchange.specs.Laws.Indexed.{Passed, none-yet, one-more, all-passed, one-fails}
 use Rattle.schedule.specs.Refusals.{fieldInside}
 use Rattle.shared.specs.Laws.Owners.{package-inside}
-use Rattle.shared.specs.Laws.Tests.{holds, fails}
+use Rattle.word.specs.Laws.Tests.{holds, fails}
 use Rattle.shared.proofs.owners.fields_inside.Statement.{statement}
 use Rattle.shared.proofs.owners.fields_inside.Tie as tie
 

@@ -1,7 +1,7 @@
 -- `shared::owners::owners_verdict` meets its contract. Assumes nothing.
 use borrow.Author.Needs.{needs}
 use Rattle.schedule.specs.Refusals.{ownersVerdict}
-use Rattle.shared.specs.Laws.Tests.{holds, fails}
+use Rattle.word.specs.Laws.Tests.{holds, fails}
 use Rattle.shared.proofs.owners.owners_verdict.Statement.{statement}
 use Rattle.shared.proofs.owners.owners_verdict.Tie as tie
 
