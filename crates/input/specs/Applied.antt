@@ -1,0 +1,54 @@
+-- What the functions that read a line or a byte promise. Assumes nothing.
+use mathlib.Core.List.{List}
+use mathlib.Core.Path.{_≡_}
+use Prim.Native.Nat.{ℕ, _≤_}
+use lib.ListN.{length}
+use Rattle.line.specs.declared.form.Line.{Line}
+use Rattle.line.specs.declared.form.Line.the-variants.{At, Job, Stint}
+use Rattle.input.specs.Reading.{beginAt, lineTo}
+use Rattle.input.specs.Reader.{Lists, lists, inUse, held, Ready, Room, keep, heldBy, feedTo, feedAll}
+use Rattle.input.specs.declared.progress.Progress.{Progress}
+use Rattle.input.specs.declared.reader.Reader.{Reader}
+
+-- a block was begun
+pub record Begun (a : ℕ) (p r : Progress) : Type 0 where
+  pub is : (m : List ℕ) (l : Lists) → length m ≡ 4096 → held r m l ≡ beginAt a (inUse p m l)
+  pub ready : Ready r
+
+-- a line was read, which left the lists as they are
+pub record LineRead (line : Line) (p : Progress) (m : List ℕ) (r : Progress) (m′ : List ℕ) : Type 0 where
+  pub is : (l : Lists) → held r m′ l ≡ lineTo (held p m l) line
+  pub ready : Ready r
+
+-- a line was read, which may be kept in part
+pub record Applied (line : Line) (p : Progress) (m : List ℕ) (l : Lists) (r : Progress) (m′ : List ℕ) (l′ : Lists) : Type 0 where
+  pub is : held r m′ l′ ≡ keep (lineTo (held p m l) line)
+  pub ready : Ready r
+
+-- at= was read
+abbrev pub BeginRead : ℕ → Progress → Progress → Type 0
+BeginRead a p r = (m : List ℕ) → length m ≡ 4096 → LineRead (At a) p m r m
+
+-- job= and stint= were read
+abbrev pub JobRead : ℕ → Progress → List ℕ → Progress → List ℕ → Type 0
+JobRead a p js r js′ = (m ss ts : List ℕ) → Applied (Job a) p m (lists js ss ts) r m (lists js′ ss ts)
+
+abbrev pub StintRead : ℕ → ℕ → Progress → List ℕ → List ℕ → Progress → List ℕ → List ℕ → Type 0
+StintRead job turns p ss ts r ss′ ts′ = (m js : List ℕ) → Applied (Stint job turns) p m (lists js ss ts) r m (lists js ss′ ts′)
+
+-- the reader's counts are within the room of the lent memory and lists, and of the line
+pub record ReaderReady (r : Reader) (m : List ℕ) (l : Lists) : Type 0 where
+  pub progress : Ready (r .progress)
+  pub room : Room m l
+  pub begun : r .length ≤ 32
+  pub long : length (r .line) ≡ 32
+
+-- a byte was read
+pub record Fed (byte : ℕ) (r : Reader) (m : List ℕ) (l : Lists) (r′ : Reader) (m′ : List ℕ) (l′ : Lists) : Type 0 where
+  pub is : heldBy r′ m′ l′ ≡ feedTo (heldBy r m l) byte
+  pub ready : ReaderReady r′ m′ l′
+
+-- bytes were read
+pub record FedAll (bytes : List ℕ) (r : Reader) (m : List ℕ) (l : Lists) (r′ : Reader) (m′ : List ℕ) (l′ : Lists) : Type 0 where
+  pub is : heldBy r′ m′ l′ ≡ feedAll (heldBy r m l) bytes
+  pub ready : ReaderReady r′ m′ l′

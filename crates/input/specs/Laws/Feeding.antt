@@ -1,0 +1,248 @@
+-- What a byte does to a reader, as the code tells its cases apart. Assumes nothing.
+use mathlib.Core.Bool.{Bool, true, false, _&&_, cond, false≢true, and-false}
+use mathlib.Core.List.{List, [], _∷_, _++_}
+use mathlib.Core.Path.{_≡_, refl, sym, ap, subst, _∙_}
+use Prim.Native.Nat.{ℕ, zero, suc, _+_, _≤_, _<_}
+use native.Mathlib.Numerals.{add-one}
+use native.Mathlib.Omega.{arith}
+use borrow.Author.Tests.{eq-eqb, ne-eqb, le-leb, eqb-true, leb-true}
+use lib.Dec.{eqb, leb}
+use lib.ListN.{length, take, drop, getD, set, drop-of-length-le, length-set}
+use lib.Seq.{drop-cons}
+use Rattle.word.specs.Laws.Choice.{of-cond}
+use Rattle.word.specs.Laws.Tests.{both}
+use Rattle.line.specs.Form.{lineOf}
+use Rattle.line.specs.declared.form.Line.{Line}
+use Rattle.input.specs.Reading.{Request, Reading, noLine, readable, unreadable, lineTo}
+use Rattle.input.specs.Reader.{Lists, readingAt, held, refused, Ready, Room, keep, Feeding, feeding, feedTo, feedAll, atLineStart, heldBy, hasRoom, isReady, feedingOf, endOf, isReadable}
+use Rattle.input.specs.Applied.{Applied, ReaderReady, Fed, FedAll}
+use Rattle.input.specs.Laws.Entries.{entry-added, entries-full}
+use Rattle.input.specs.declared.progress.Part.{Part}
+use Rattle.input.specs.declared.progress.Part.the-variants as Last
+use Rattle.input.specs.declared.progress.Progress.{Progress}
+use Rattle.input.specs.declared.reader.Reader.{Reader}
+
+-- a byte after a line that has begun
+pub feed-begun : (line : List ℕ) (x : Reading) (byte : ℕ) → feedTo (feeding line x) byte
+    ≡ cond (eqb byte 10) (feeding [] (keep (lineTo x (lineOf line)))) (feeding (take 32 (line ++ (byte ∷ []))) x)
+unfolding feedTo lineTo
+feed-begun line noLine byte = refl
+feed-begun line (readable part q) byte = refl
+feed-begun line unreadable byte = refl
+
+pub room-same : {m m′ : List ℕ} {l l′ : Lists} → Room m l → length m′ ≡ length m → length (l′ .jobs) ≡ length (l .jobs)
+    → length (l′ .stintJobs) ≡ length (l .stintJobs) → length (l′ .stintTurns) ≡ length (l .stintTurns) → Room m′ l′
+room-same k e f g h =
+    record { memory = e ∙ k .memory; jobs = f ∙ k .jobs; stintJobs = g ∙ k .stintJobs; stintTurns = h ∙ k .stintTurns }
+
+module _ {r : Reader} {m : List ℕ} {l : Lists} {byte : ℕ} (k : ReaderReady r m l) where
+  pub fed-line : {m′ : List ℕ} {l′ : Lists} {p : Progress} {said : Line} {r′ : Reader} → byte ≡ 10
+      → said ≡ lineOf (take (r .length) (r .line)) → Applied said (r .progress) m l p m′ l′ → Room m′ l′
+      → r′ ≡ atLineStart p → Fed byte r m l r′ m′ l′
+  fed-line {m′} {l′} {p} {said} e f a room g =
+      subst (λ (x : Reader). Fed byte r m l x m′ l′) (sym g)
+      (record {
+        is =
+            rw (feed-begun (take (r .length) (r .line)) (held (r .progress) m l) byte, eq-eqb byte 10 e, ← f)
+            (ap (λ (x : Reading). feeding [] x) (a .is));
+        ready = record { progress = a .ready; room = room; begun = omega arith; long = refl };
+      })
+
+  pub fed-byte : (byte ≡ 10 → ⊥) → r .length < 32
+      → Fed byte r m l (record { progress = r .progress; line = set (r .line) (r .length) byte; length = r .length + 1 }) m l
+  fed-byte e h =
+      let long = length-set (r .line) (r .length) byte ∙ k .long in
+      record {
+        is =
+            rw (feed-begun (take (r .length) (r .line)) (held (r .progress) m l) byte, ne-eqb byte 10 e)
+            (ap (λ (x : List ℕ). feeding x (held (r .progress) m l)) (entry-added (r .length) 32 (r .line) byte (k .long) h));
+        ready = record { progress = k .progress; room = k .room; begun = omega arith; long = long };
+      }
+
+  pub fed-over : (byte ≡ 10 → ⊥) → 32 ≤ r .length → Fed byte r m l r m l
+  fed-over e h =
+      let same = entries-full (r .length) 32 (r .line) byte (k .long) (omega (arith, k .begun)) in
+      record {
+        is =
+            rw (feed-begun (take (r .length) (r .line)) (held (r .progress) m l) byte, ne-eqb byte 10 e)
+            (ap (λ (x : List ℕ). feeding x (held (r .progress) m l)) same);
+        ready = k;
+      }
+
+-- the loop over the bytes: what is left gives what all give
+pub record FeedingOn (bytes : List ℕ) (i : ℕ) (r₀ : Reader) (m₀ : List ℕ) (l₀ : Lists) (r : Reader) (m : List ℕ) (l : Lists) : Type 0 where
+  pub is : feedAll (heldBy r m l) (drop i bytes) ≡ feedAll (heldBy r₀ m₀ l₀) bytes
+  pub ready : ReaderReady r m l
+
+pub feeding-start : {bytes : List ℕ} {r : Reader} {m : List ℕ} {l : Lists} → ReaderReady r m l → FeedingOn bytes 0 r m l r m l
+feeding-start k = record { is = refl; ready = k }
+
+next-byte : (bytes : List ℕ) (i : ℕ) (f : Feeding) → i < length bytes
+    → feedAll (feedTo f (getD bytes i 0)) (drop (i + 1) bytes) ≡ feedAll f (drop i bytes)
+unfolding feedAll
+next-byte bytes i f h = rw (add-one, drop-cons bytes i 0 h)
+
+no-byte : (bytes : List ℕ) (i : ℕ) (f : Feeding) → length bytes ≤ i → feedAll f (drop i bytes) ≡ f
+unfolding feedAll
+no-byte bytes i f h = rw (drop-of-length-le bytes h)
+
+module _ {bytes : List ℕ} {i : ℕ} {r₀ : Reader} {m₀ : List ℕ} {l₀ : Lists} {r : Reader} {m : List ℕ} {l : Lists}
+    (g : FeedingOn bytes i r₀ m₀ l₀ r m l) where
+  pub feeding-next : {r′ : Reader} {m′ : List ℕ} {l′ : Lists} → i < length bytes → Fed (getD bytes i 0) r m l r′ m′ l′
+      → FeedingOn bytes (i + 1) r₀ m₀ l₀ r′ m′ l′
+  feeding-next h f =
+      record {
+        is = ap (λ (x : Feeding). feedAll x (drop (i + 1) bytes)) (f .is) ∙ next-byte bytes i (heldBy r m l) h ∙ g .is;
+        ready = f .ready;
+      }
+
+  pub feeding-end : length bytes ≤ i → FedAll bytes r₀ m₀ l₀ r m l
+  feeding-end h = record { is = sym (no-byte bytes i (heldBy r m l) h) ∙ g .is; ready = g .ready }
+
+-- the tests of room and counts
+room-by-test : (m : List ℕ) (l : Lists) → hasRoom m l ≡ true → Room m l
+room-by-test m l e =
+    let e₁ = both (eqb (length m) 4096) _ e in
+    let e₂ = both (eqb (length (l .jobs)) 17) _ (e₁ .1) in
+    let e₃ = both (eqb (length (l .stintJobs)) 257) (eqb (length (l .stintTurns)) 257) (e₂ .1) in
+    record {
+      memory = eqb-true (length m) 4096 (e₁ .0);
+      jobs = eqb-true (length (l .jobs)) 17 (e₂ .0);
+      stintJobs = eqb-true (length (l .stintJobs)) 257 (e₃ .0);
+      stintTurns = eqb-true (length (l .stintTurns)) 257 (e₃ .1);
+    }
+
+counts-by-test : (p : Progress) (n : ℕ)
+    → (leb (p .words) 4096 && (leb (p .jobs) 17 && (leb (p .stints) 257 && leb n 32))) ≡ true → Ready p × (n ≤ 32)
+counts-by-test p n e =
+    let e₁ = both (leb (p .words) 4096) _ e in
+    let e₂ = both (leb (p .jobs) 17) _ (e₁ .1) in
+    let e₃ = both (leb (p .stints) 257) (leb n 32) (e₂ .1) in (
+      record {
+        words = leb-true (p .words) 4096 (e₁ .0);
+        jobs = leb-true (p .jobs) 17 (e₂ .0);
+        stints = leb-true (p .stints) 257 (e₃ .0);
+      },
+      leb-true n 32 (e₃ .1),
+    )
+
+pub ready-by-test : (r : Reader) (m : List ℕ) (l : Lists) → hasRoom m l ≡ true → isReady r ≡ true → length (r .line) ≡ 32
+    → ReaderReady r m l
+ready-by-test r m l e f long =
+    let counts = counts-by-test (r .progress) (r .length) f in
+    record { progress = counts .0; room = room-by-test m l e; begun = counts .1; long = long }
+
+pub feeding-ready : (r : Reader) (m : List ℕ) (l : Lists) → ReaderReady r m l → feedingOf r m l ≡ heldBy r m l
+unfolding feedingOf
+feeding-ready r m l k =
+    rw (
+      eq-eqb (length m) 4096 (k .room .memory),
+      eq-eqb (length (l .jobs)) 17 (k .room .jobs),
+      eq-eqb (length (l .stintJobs)) 257 (k .room .stintJobs),
+      eq-eqb (length (l .stintTurns)) 257 (k .room .stintTurns),
+      le-leb (r .progress .words) 4096 (k .progress .words),
+      le-leb (r .progress .jobs) 17 (k .progress .jobs),
+      le-leb (r .progress .stints) 257 (k .progress .stints),
+      le-leb (r .length) 32 (k .begun),
+    )
+
+-- once unreadable, always so
+feed-unreadable : (byte : ℕ) → feedTo (feeding [] unreadable) byte ≡ feeding [] unreadable
+unfolding feedTo lineTo
+feed-unreadable byte = of-cond (λ (f : Feeding). f ≡ feeding [] unreadable) (eqb byte 10) (λ _. refl) (λ _. refl)
+
+pub unreadable-stays : (bytes : List ℕ) → feedAll (feeding [] unreadable) bytes ≡ feeding [] unreadable
+unfolding feedAll
+unreadable-stays [] = refl
+unreadable-stays (byte ∷ bytes) =
+    ap (λ (f : Feeding). feedAll f bytes) (feed-unreadable byte) ∙ unreadable-stays bytes
+
+pub feeding-refused : (m : List ℕ) (l : Lists) → feedingOf (atLineStart refused) m l ≡ feeding [] unreadable
+unfolding feedingOf
+feeding-refused m l =
+    of-cond (λ (f : Feeding). f ≡ feeding [] unreadable) (hasRoom m l && isReady (atLineStart refused)) (λ _. refl) (λ _. refl)
+
+pub feeding-no-room : (r : Reader) (m : List ℕ) (l : Lists) → hasRoom m l ≡ false → feedingOf r m l ≡ feeding [] unreadable
+unfolding feedingOf
+feeding-no-room r m l e = rw e
+
+pub feeding-not-ready : (r : Reader) (m : List ℕ) (l : Lists) → isReady r ≡ false → feedingOf r m l ≡ feeding [] unreadable
+unfolding feedingOf
+feeding-not-ready r m l e = rw (e, and-false (hasRoom m l))
+
+-- what `feed` gives, with its tests met or not
+pub fed-ready : {bytes : List ℕ} {r r′ : Reader} {m m′ : List ℕ} {l l′ : Lists} → ReaderReady r m l → FedAll bytes r m l r′ m′ l′
+    → feedingOf r′ m′ l′ ≡ feedAll (feedingOf r m l) bytes
+fed-ready {bytes} {r} {r′} {m} {m′} {l} {l′} k f =
+    feeding-ready r′ m′ l′ (f .ready) ∙ f .is ∙ ap (λ (x : Feeding). feedAll x bytes) (sym (feeding-ready r m l k))
+
+pub fed-refused : (bytes : List ℕ) (r r′ : Reader) (m : List ℕ) (l : Lists) → feedingOf r m l ≡ feeding [] unreadable
+    → r′ ≡ atLineStart refused → feedingOf r′ m l ≡ feedAll (feedingOf r m l) bytes
+fed-refused bytes r r′ m l e f =
+    rw (f, e) (feeding-refused m l ∙ sym (unreadable-stays bytes))
+
+-- the tests of a complete input
+some-line : (n : ℕ) (line : List ℕ) (x : Reading) → (n ≡ 0 → ⊥) → length line ≡ 32 → isReadable (endOf (feeding (take n line) x)) ≡ false
+some-line zero line x h e = absurd (h refl)
+some-line (suc n) [] x h e = absurd (omega arith)
+some-line (suc n) (b ∷ line) noLine h e = refl
+some-line (suc n) (b ∷ line) (readable part q) h e = refl
+some-line (suc n) (b ∷ line) unreadable h e = refl
+
+no-line-begun : (x : Reading) → endOf (feeding [] x) ≡ x
+no-line-begun noLine = refl
+no-line-begun (readable part q) = refl
+no-line-begun unreadable = refl
+
+module _ (r : Reader) (m : List ℕ) (l : Lists) where
+  pub incomplete : feedingOf r m l ≡ feeding [] unreadable → isReadable (endOf (feedingOf r m l)) ≡ false
+  incomplete e = rw e
+
+  module _ (k : ReaderReady r m l) where
+    pub line-begun : (r .length ≡ 0 → ⊥) → isReadable (endOf (feedingOf r m l)) ≡ false
+    line-begun h = rw (feeding-ready r m l k) (some-line (r .length) (r .line) (held (r .progress) m l) h (k .long))
+
+    complete-is : r .length ≡ 0 → endOf (feedingOf r m l) ≡ held (r .progress) m l
+    complete-is h = rw (feeding-ready r m l k, h) (no-line-begun (held (r .progress) m l))
+
+    pub complete-at : {t : Bool} → r .length ≡ 0 → isReadable (held (r .progress) m l) ≡ t → t ≡ isReadable (endOf (feedingOf r m l))
+    complete-at h e = sym (ap isReadable (complete-is h) ∙ e)
+
+pub start-incomplete : (part : Part) → part ≡ Last.Start → (q : Request) → isReadable (readingAt part q) ≡ false
+start-incomplete part e q = rw e
+
+pub refused-incomplete : (part : Part) → part ≡ Last.Unreadable → (q : Request) → isReadable (readingAt part q) ≡ false
+refused-incomplete part e q = rw e
+
+-- a readable input was held with no line begun, and within its room
+pub record Complete (r : Reader) (m : List ℕ) (l : Lists) : Type 0 where
+  pub progress : Ready (r .progress)
+  pub room : Room m l
+  pub is : endOf (feedingOf r m l) ≡ held (r .progress) m l
+
+readable-end : (line : List ℕ) (x : Reading) → isReadable (endOf (feeding line x)) ≡ true → endOf (feeding line x) ≡ x
+readable-end [] noLine e = refl
+readable-end [] (readable part q) e = refl
+readable-end [] unreadable e = refl
+readable-end (byte ∷ line) noLine e = absurd (false≢true e)
+readable-end (byte ∷ line) (readable part q) e = absurd (false≢true e)
+readable-end (byte ∷ line) unreadable e = absurd (false≢true e)
+
+held-by : (r : Reader) (m : List ℕ) (l : Lists) → (hasRoom m l && isReady r) ≡ true → feedingOf r m l ≡ heldBy r m l
+unfolding feedingOf
+held-by r m l e = rw e
+
+complete-by : (r : Reader) (m : List ℕ) (l : Lists) (t : Bool) → (hasRoom m l && isReady r) ≡ t
+    → isReadable (endOf (cond t (heldBy r m l) (feeding [] unreadable))) ≡ true → Complete r m l
+complete-by r m l true e f =
+    let tests = both (hasRoom m l) (isReady r) e in
+    record {
+      progress = counts-by-test (r .progress) (r .length) (tests .1) .0;
+      room = room-by-test m l (tests .0);
+      is = ap endOf (held-by r m l e) ∙ readable-end (take (r .length) (r .line)) (held (r .progress) m l) f;
+    }
+complete-by r m l false e f = absurd (false≢true f)
+
+pub complete : (r : Reader) (m : List ℕ) (l : Lists) → isReadable (endOf (feedingOf r m l)) ≡ true → Complete r m l
+unfolding feedingOf
+complete r m l e = complete-by r m l (hasRoom m l && isReady r) refl e

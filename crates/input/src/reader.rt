@@ -1,0 +1,196 @@
+// Reads an input byte by byte, so that one of any length needs no more than the lent memory.
+ghost use mathlib.Core.Path.{_≡_};
+ghost use Rattle.input.specs.Reader.{lists, atLineStart, emptyReader, hasRoom, isReady, feedAll, feedingOf, endOf, isReadable};
+ghost use Rattle.input.specs.Applied.{ReaderReady, Fed, FedAll};
+use super::progress::Part;
+use super::progress::Progress;
+use super::progress::refuse;
+use super::rules::apply;
+use line::form::line_of;
+
+// How far the input was read, and the line that has begun: its first bytes, and how many of them there are.
+pub struct Reader {
+    pub progress: Progress,
+    pub line: [u8; 32],
+    pub length: usize,
+}
+
+fn at_line_start(progress: Progress) -> Reader
+    ensures { λ r. ⌜ r ≡ atLineStart progress ⌝ }
+{
+    Reader {
+        progress,
+        line: [0; 32],
+        length: 0,
+    }
+}
+
+// A reader that has read nothing.
+pub fn start() -> Reader
+    ensures { λ r. ⌜ r ≡ emptyReader ⌝ }
+{
+    at_line_start(Progress {
+        part: Part::Start,
+        words: 0,
+        jobs: 0,
+        stints: 0,
+    })
+}
+
+// The bytes of a line past the first 32 are not kept: it is unreadable already.
+fn feed_byte(
+    r: Reader,
+    byte: u8,
+    memory: &mut [u64],
+    jobs: &mut [u64],
+    stint_jobs: &mut [u64],
+    stint_turns: &mut [u64],
+) -> Reader
+    requires { ⌜ ReaderReady r (now memory) (lists (now jobs) (now «stint_jobs») (now «stint_turns»)) ⌝ }
+    ensures { λ o.
+        ⌜ Fed byte r (now (memory .entry)) (lists (now (jobs .entry)) (now («stint_jobs» .entry)) (now («stint_turns» .entry)))
+        o (now (memory .exit)) (lists (now (jobs .exit)) (now («stint_jobs» .exit)) (now («stint_turns» .exit))) ⌝ }
+{
+    let n = r.length;
+    let progress = r.progress;
+    let mut line = r.line;
+    if byte == b'\n' {
+        let said = line_of(&line[..n]);
+        let next = apply(
+            progress,
+            said,
+            &mut *memory,
+            &mut *jobs,
+            &mut *stint_jobs,
+            &mut *stint_turns,
+        );
+        return at_line_start(next);
+    }
+    if n < 32 {
+        line[n] = byte;
+        return Reader {
+            progress,
+            line,
+            length: n + 1,
+        };
+    }
+    r
+}
+
+fn feed_all(
+    r: Reader,
+    bytes: &[u8],
+    memory: &mut [u64],
+    jobs: &mut [u64],
+    stint_jobs: &mut [u64],
+    stint_turns: &mut [u64],
+) -> Reader
+    requires { ⌜ ReaderReady r (now memory) (lists (now jobs) (now «stint_jobs») (now «stint_turns»)) ⌝ }
+    ensures { λ o.
+        ⌜ FedAll (now (bytes .entry)) r (now (memory .entry)) (lists (now (jobs .entry)) (now («stint_jobs» .entry)) (now («stint_turns» .entry)))
+        o (now (memory .exit)) (lists (now (jobs .exit)) (now («stint_jobs» .exit)) (now («stint_turns» .exit))) ⌝ }
+{
+    let mut next = r;
+    let mut i: usize = 0;
+    while i < bytes.len() {
+        let byte = bytes[i];
+        next = feed_byte(
+            next,
+            byte,
+            &mut *memory,
+            &mut *jobs,
+            &mut *stint_jobs,
+            &mut *stint_turns,
+        );
+        i = i + 1;
+    }
+    next
+}
+
+fn has_room(memory: &[u64], jobs: &[u64], stint_jobs: &[u64], stint_turns: &[u64]) -> bool
+    ensures { λ r. ⌜ r ≡ hasRoom (now (memory .entry)) (lists (now (jobs .entry)) (now («stint_jobs» .entry)) (now («stint_turns» .entry))) ⌝ }
+{
+    if memory.len() != 4096 {
+        return false;
+    }
+    if jobs.len() != 17 {
+        return false;
+    }
+    if stint_jobs.len() != 257 {
+        return false;
+    }
+    stint_turns.len() == 257
+}
+
+fn is_ready(r: Reader) -> bool
+    ensures { λ o. ⌜ o ≡ isReady r ⌝ }
+{
+    if 4096 < r.progress.words {
+        return false;
+    }
+    if 17 < r.progress.jobs {
+        return false;
+    }
+    if 257 < r.progress.stints {
+        return false;
+    }
+    r.length <= 32
+}
+
+// Reads the next bytes of the input. Without 4096 words, 17 jobs and 257 stints of room, the input is unreadable.
+pub fn feed(
+    r: Reader,
+    bytes: &[u8],
+    memory: &mut [u64],
+    jobs: &mut [u64],
+    stint_jobs: &mut [u64],
+    stint_turns: &mut [u64],
+) -> Reader
+    ensures { λ o.
+        ⌜ feedingOf o (now (memory .exit)) (lists (now (jobs .exit)) (now («stint_jobs» .exit)) (now («stint_turns» .exit)))
+        ≡ feedAll (feedingOf r (now (memory .entry)) (lists (now (jobs .entry)) (now («stint_jobs» .entry)) (now («stint_turns» .entry)))) (now (bytes .entry)) ⌝ }
+{
+    if !has_room(&*memory, &*jobs, &*stint_jobs, &*stint_turns) {
+        return at_line_start(refuse());
+    }
+    if !is_ready(r) {
+        return at_line_start(refuse());
+    }
+    feed_all(
+        r,
+        bytes,
+        &mut *memory,
+        &mut *jobs,
+        &mut *stint_jobs,
+        &mut *stint_turns,
+    )
+}
+
+// Whether the input is readable, if it ends here.
+pub fn is_complete(
+    r: Reader,
+    memory: &[u64],
+    jobs: &[u64],
+    stint_jobs: &[u64],
+    stint_turns: &[u64],
+) -> bool
+    ensures { λ o.
+        ⌜ o ≡ isReadable (endOf (feedingOf r (now (memory .entry)) (lists (now (jobs .entry)) (now («stint_jobs» .entry)) (now («stint_turns» .entry))))) ⌝ }
+{
+    if !has_room(memory, jobs, stint_jobs, stint_turns) {
+        return false;
+    }
+    if !is_ready(r) {
+        return false;
+    }
+    if r.length != 0 {
+        return false;
+    }
+    let progress = r.progress;
+    let part = progress.part;
+    match part {
+        Part::Start => false,
+        Part::Unreadable => false,
+        _ => true,
+    }
+}
