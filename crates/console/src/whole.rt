@@ -1,0 +1,26 @@
+// The answer to an input that is given as a whole.
+ghost use mathlib.Core.Path.{_≡_};
+ghost use Rattle.console.specs.Console.{outputOf};
+ghost use Rattle.console.specs.Finish.{written, writtenTo};
+use super::finish::Output;
+use super::finish::finish;
+use input::reader::feed;
+use input::reader::start;
+
+pub fn answer(input: &[u8], out: &mut [u8]) -> Output
+    ensures { λ o. ⌜ written o (now (out .exit)) ≡ writtenTo (outputOf (now (input .entry))) (now (out .entry)) ⌝ }
+{
+    let mut memory = [0u64; 4096];
+    let mut jobs = [0u64; 17];
+    let mut stint_jobs = [0u64; 257];
+    let mut stint_turns = [0u64; 257];
+    let r = feed(
+        start(),
+        input,
+        &mut memory,
+        &mut jobs,
+        &mut stint_jobs,
+        &mut stint_turns,
+    );
+    finish(r, &mut memory, &jobs, &stint_jobs, &stint_turns, &mut *out)
+}
