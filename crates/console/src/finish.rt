@@ -8,6 +8,9 @@ use input::reader::is_complete;
 use outcome::refusal::Refusal;
 use output::refused::write_refused;
 
+// The room that every answer fits in: 256 stints of 93 bytes at most, and 4,096 words of 44 bytes at most.
+pub const OUTPUT_BYTES: usize = 204032;
+
 // How much of the buffer the answer takes up.
 pub enum Output {
     Bytes(usize),
@@ -29,7 +32,7 @@ pub fn finish(
         ≡ finishTo (endOf (feedingOf r (now (memory .entry)) (lists (now (jobs .entry)) (now («stint_jobs» .entry)) (now («stint_turns» .entry)))))
         (now (out .entry)) (now (memory .entry)) ⌝ }
 {
-    if out.len() < 204032 {
+    if out.len() < OUTPUT_BYTES {
         return Output::TooShort;
     }
     if !is_complete(r, &*memory, jobs, stint_jobs, stint_turns) {

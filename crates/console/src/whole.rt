@@ -4,16 +4,19 @@ ghost use Rattle.console.specs.Console.{outputOf};
 ghost use Rattle.console.specs.Finish.{written, writtenTo};
 use super::finish::Output;
 use super::finish::finish;
+use input::reader::JOB_ENTRIES;
+use input::reader::MEMORY_WORDS;
+use input::reader::STINT_ENTRIES;
 use input::reader::feed;
 use input::reader::start;
 
 pub fn answer(input: &[u8], out: &mut [u8]) -> Output
     ensures { λ o. ⌜ written o (now (out .exit)) ≡ writtenTo (outputOf (now (input .entry))) (now (out .entry)) ⌝ }
 {
-    let mut memory = [0u64; 4096];
-    let mut jobs = [0u64; 17];
-    let mut stint_jobs = [0u64; 257];
-    let mut stint_turns = [0u64; 257];
+    let mut memory = [0u64; MEMORY_WORDS];
+    let mut jobs = [0u64; JOB_ENTRIES];
+    let mut stint_jobs = [0u64; STINT_ENTRIES];
+    let mut stint_turns = [0u64; STINT_ENTRIES];
     let r = feed(
         start(),
         input,

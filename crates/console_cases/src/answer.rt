@@ -1,4 +1,5 @@
 // Writes the answer to one input and the line that ends it.
+use console::finish::OUTPUT_BYTES;
 use console::finish::Output;
 use console::finish::finish;
 use input::reader::Reader;
@@ -10,7 +11,7 @@ pub(crate) fn write(
     stint_jobs: &[u64],
     stint_turns: &[u64],
 ) {
-    let mut out = [0u8; 204032];
+    let mut out = [0u8; OUTPUT_BYTES];
     let o = finish(r, &mut *memory, jobs, stint_jobs, stint_turns, &mut out);
     match o {
         Output::Bytes(n) => {

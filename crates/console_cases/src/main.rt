@@ -4,6 +4,9 @@ mod answer;
 mod cases;
 
 use cases::Case;
+use input::reader::JOB_ENTRIES;
+use input::reader::MEMORY_WORDS;
+use input::reader::STINT_ENTRIES;
 
 // Answers the inputs that end in the next bytes of the stream.
 fn read_some(
@@ -49,9 +52,9 @@ fn read_all(memory: &mut [u64], jobs: &mut [u64], stint_jobs: &mut [u64], stint_
 }
 
 fn main() {
-    let mut memory = [0u64; 4096];
-    let mut jobs = [0u64; 17];
-    let mut stint_jobs = [0u64; 257];
-    let mut stint_turns = [0u64; 257];
+    let mut memory = [0u64; MEMORY_WORDS];
+    let mut jobs = [0u64; JOB_ENTRIES];
+    let mut stint_jobs = [0u64; STINT_ENTRIES];
+    let mut stint_turns = [0u64; STINT_ENTRIES];
     read_all(&mut memory, &mut jobs, &mut stint_jobs, &mut stint_turns);
 }

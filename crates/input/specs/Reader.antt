@@ -49,14 +49,14 @@ stintsInUse p n = record { part = Last.Stints; words = p .words; jobs = p .jobs;
 
 -- the counts are within the lent memory and lists
 pub record Ready (p : Progress) : Type 0 where
-  pub words : p .words ≤ 4096
+  pub words : p .words ≤ 0o10000
   pub jobs : p .jobs ≤ 17
   pub stints : p .stints ≤ 257
 
 -- the lent memory has the most words that an input may ask for, 10000 octal; each list has one entry more than a schedule may
 -- have, so that a list that is too long is kept too long
 pub record Room (m : List ℕ) (l : Lists) : Type 0 where
-  pub memory : length m ≡ 4096
+  pub memory : length m ≡ 0o10000
   pub jobs : length (l .jobs) ≡ 17
   pub stintJobs : length (l .stintJobs) ≡ 257
   pub stintTurns : length (l .stintTurns) ≡ 257
@@ -106,11 +106,11 @@ heldBy r m l = feeding (take (r .length) (r .line)) (held (r .progress) m l)
 -- the lent memory and lists have their room, and the reader's counts are within it
 abbrev pub hasRoom : List ℕ → Lists → Bool
 hasRoom m l =
-    eqb (length m) 4096 && (eqb (length (l .jobs)) 17 && (eqb (length (l .stintJobs)) 257 && eqb (length (l .stintTurns)) 257))
+    eqb (length m) 0o10000 && (eqb (length (l .jobs)) 17 && (eqb (length (l .stintJobs)) 257 && eqb (length (l .stintTurns)) 257))
 
 abbrev pub isReady : Reader → Bool
 isReady r =
-    leb (r .progress .words) 4096 && (leb (r .progress .jobs) 17 && (leb (r .progress .stints) 257 && leb (r .length) 32))
+    leb (r .progress .words) 0o10000 && (leb (r .progress .jobs) 17 && (leb (r .progress .stints) 257 && leb (r .length) 32))
 
 -- what a reader holds; without room, or with counts past it, it holds an input that is unreadable
 unfoldable pub feedingOf : Reader → List ℕ → Lists → Feeding

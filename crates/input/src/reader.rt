@@ -8,6 +8,14 @@ use super::progress::refuse;
 use super::rules::apply;
 use line::form::line_of;
 
+// The lengths that the lent slices have: the most words that an input may ask for, and one entry more than a schedule may have,
+// so that a list that is too long is seen to be so.
+pub const MEMORY_WORDS: usize = 0o10000;
+
+pub const JOB_ENTRIES: usize = 17;
+
+pub const STINT_ENTRIES: usize = 257;
+
 // How far the input was read, and the line that has begun: its first bytes, and how many of them there are.
 pub struct Reader {
     pub progress: Progress,
@@ -110,28 +118,28 @@ fn feed_all(
 fn has_room(memory: &[u64], jobs: &[u64], stint_jobs: &[u64], stint_turns: &[u64]) -> bool
     ensures { λ r. ⌜ r ≡ hasRoom (now (memory .entry)) (lists (now (jobs .entry)) (now («stint_jobs» .entry)) (now («stint_turns» .entry))) ⌝ }
 {
-    if memory.len() != 4096 {
+    if memory.len() != MEMORY_WORDS {
         return false;
     }
-    if jobs.len() != 17 {
+    if jobs.len() != JOB_ENTRIES {
         return false;
     }
-    if stint_jobs.len() != 257 {
+    if stint_jobs.len() != STINT_ENTRIES {
         return false;
     }
-    stint_turns.len() == 257
+    stint_turns.len() == STINT_ENTRIES
 }
 
 fn is_ready(r: Reader) -> bool
     ensures { λ o. ⌜ o ≡ isReady r ⌝ }
 {
-    if 4096 < r.progress.words {
+    if MEMORY_WORDS < r.progress.words {
         return false;
     }
-    if 17 < r.progress.jobs {
+    if JOB_ENTRIES < r.progress.jobs {
         return false;
     }
-    if 257 < r.progress.stints {
+    if STINT_ENTRIES < r.progress.stints {
         return false;
     }
     r.length <= 32

@@ -1,7 +1,11 @@
 // The console program: the input on standard input, its answer on standard output.
+use console::finish::OUTPUT_BYTES;
 use console::finish::Output;
 use console::finish::finish;
+use input::reader::JOB_ENTRIES;
+use input::reader::MEMORY_WORDS;
 use input::reader::Reader;
+use input::reader::STINT_ENTRIES;
 use input::reader::feed;
 use input::reader::start;
 
@@ -53,7 +57,7 @@ fn write_answer(
     stint_jobs: &[u64],
     stint_turns: &[u64],
 ) {
-    let mut out = [0u8; 204032];
+    let mut out = [0u8; OUTPUT_BYTES];
     let o = finish(r, &mut *memory, jobs, stint_jobs, stint_turns, &mut out);
     match o {
         Output::Bytes(n) => {
@@ -67,10 +71,10 @@ fn write_answer(
 
 // Nothing is answered where a part of the input may be missing.
 fn main() {
-    let mut memory = [0u64; 4096];
-    let mut jobs = [0u64; 17];
-    let mut stint_jobs = [0u64; 257];
-    let mut stint_turns = [0u64; 257];
+    let mut memory = [0u64; MEMORY_WORDS];
+    let mut jobs = [0u64; JOB_ENTRIES];
+    let mut stint_jobs = [0u64; STINT_ENTRIES];
+    let mut stint_turns = [0u64; STINT_ENTRIES];
     let source = read_all(&mut memory, &mut jobs, &mut stint_jobs, &mut stint_turns);
     if !source.ended {
         io::write_all(2, b"tozhenab: the input cannot be read to its end\n");

@@ -1,10 +1,12 @@
 -- The line words=, and the loop that clears the memory for it. Assumes nothing.
+use mathlib.Core.Bool.{and-false}
 use mathlib.Core.List.{List, [], _∷_}
 use mathlib.Core.Path.{_≡_, refl, sym, ap, _∙_}
 use Prim.Native.Nat.{ℕ, zero, suc, _+_, _≤_, _<_}
 use native.Mathlib.Numerals.{add-one}
 use native.Mathlib.Omega.{arith}
 use borrow.Author.Tests.{lt-leb, le-leb}
+use lib.Dec.{leb}
 use lib.ListN.{length, take, set, replicate, length-set, replicate-append-replicate}
 use lib.Seq.{take-all, take-suc-set}
 use Rattle.line.specs.declared.form.Line.the-variants.{Words}
@@ -15,23 +17,29 @@ use Rattle.input.specs.declared.progress.Part.{Part}
 use Rattle.input.specs.declared.progress.Part.the-variants as Last
 use Rattle.input.specs.declared.progress.Progress.{Progress}
 
-pub words-low : (part : Part) (n : ℕ) → n < 1 → (q : Request) → lineTo (readingAt part q) (Words n) ≡ unreadable
-unfolding lineTo wordsTo
-words-low Last.Start n h q = rw (lt-leb 1 n h)
-words-low Last.Words n h q = refl
-words-low (Last.Block b e) n h q = refl
-words-low Last.Jobs n h q = refl
-words-low Last.Stints n h q = refl
-words-low Last.Unreadable n h q = refl
+-- words= is unreadable with a number outside its limits, wherever it stands
+refused-words : (part : Part) (n : ℕ) → wordsTo n ≡ unreadable → (q : Request) → lineTo (readingAt part q) (Words n) ≡ unreadable
+unfolding lineTo
+refused-words Last.Start n e q = e
+refused-words Last.Words n e q = refl
+refused-words (Last.Block b end) n e q = refl
+refused-words Last.Jobs n e q = refl
+refused-words Last.Stints n e q = refl
+refused-words Last.Unreadable n e q = refl
 
-pub words-high : (part : Part) (n : ℕ) → 1 ≤ n → 0o10000 < n → (q : Request) → lineTo (readingAt part q) (Words n) ≡ unreadable
-unfolding lineTo wordsTo
-words-high Last.Start n l h q = rw (le-leb 1 n l, lt-leb n 0o10000 h)
-words-high Last.Words n l h q = refl
-words-high (Last.Block b e) n l h q = refl
-words-high Last.Jobs n l h q = refl
-words-high Last.Stints n l h q = refl
-words-high Last.Unreadable n l h q = refl
+too-few : (n : ℕ) → n < 1 → wordsTo n ≡ unreadable
+unfolding wordsTo
+too-few n h = rw (lt-leb 1 n h)
+
+too-many : (n : ℕ) → 0o10000 < n → wordsTo n ≡ unreadable
+unfolding wordsTo
+too-many n h = rw (lt-leb n 0o10000 h, and-false (leb 1 n))
+
+pub words-low : (part : Part) (n : ℕ) → n < 1 → (q : Request) → lineTo (readingAt part q) (Words n) ≡ unreadable
+words-low part n h = refused-words part n (too-few n h)
+
+pub words-high : (part : Part) (n : ℕ) → 0o10000 < n → (q : Request) → lineTo (readingAt part q) (Words n) ≡ unreadable
+words-high part n h = refused-words part n (too-many n h)
 
 take-replicate : (n k : ℕ) → n ≤ k → take {A = ℕ} n (replicate k 0) ≡ replicate n 0
 take-replicate zero k h = refl

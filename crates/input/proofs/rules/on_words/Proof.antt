@@ -22,7 +22,7 @@ returns-2 : tie.Need-returns-2
 returns-2 c =
     let part = c .before .before .before .before .args .p .part in
     line-refused (c .refuse2 .ensures)
-    (words-high part _ (omega (arith, c .before .before .if1 .left)) (omega (arith, c .before .if2 .taken)))
+    (words-high part _ (omega (arith, c .before .if2 .taken)))
 
 enum-told : tie.Need-enum-told
 enum-told c = search needs
