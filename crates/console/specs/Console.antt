@@ -9,7 +9,7 @@ use Rattle.outcome.specs.declared.refusal.Verdict.the-variants as Call
 use Rattle.exchange.specs.declared.record.Central.{Central}
 use Rattle.schedule.specs.Schedule.{Schedule, scheduleEnd}
 use Rattle.schedule.specs.Refusals.{scheduleVerdict}
-use Rattle.input.specs.Reading.{Request, Reading, noLine, readable, unreadable, readingOf}
+use Rattle.reading.specs.Reading.{Request, Reading, noLine, readable, unreadable, readingOf}
 use Rattle.output.specs.Text.{stintsLines, wordLines, refusedLine}
 
 -- the record that the console lends to a schedule: every value 0, so the processor is running

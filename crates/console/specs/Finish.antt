@@ -14,7 +14,7 @@ use Rattle.schedule.specs.Refusals.{mostStints, scheduleVerdict}
 use Rattle.schedule.specs.Schedule.{Schedule}
 use Rattle.shared.specs.Answer.{scheduleAnswer}
 use Rattle.shared.specs.declared.call.ScheduleAnswer.{ScheduleAnswer}
-use Rattle.input.specs.Reading.{Reading, noLine, readable, unreadable}
+use Rattle.reading.specs.Reading.{Reading, noLine, readable, unreadable}
 use Rattle.output.specs.Text.{stintsLines, wordLines, refusedLine}
 use Rattle.console.specs.Console.{scheduleIn, printed, outputOn}
 use Rattle.console.specs.declared.finish.Output.{Output}

@@ -1,6 +1,7 @@
 // The end of an input: its answer.
 ghost use mathlib.Core.Path.{_≡_};
-ghost use Rattle.input.specs.Reader.{lists, feedingOf, endOf};
+ghost use Rattle.reading.specs.Held.{lists};
+ghost use Rattle.input.specs.Reader.{feedingOf, endOf};
 ghost use Rattle.console.specs.Finish.{written, finished, finishTo};
 use super::run::run;
 use input::reader::Reader;

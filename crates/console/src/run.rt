@@ -3,7 +3,7 @@ ghost use mathlib.Core.Path.{_≡_};
 ghost use Prim.Native.Nat.{_≤_};
 ghost use lib.ListN.{length};
 ghost use Rattle.octal.specs.Write.{Wrote};
-ghost use Rattle.input.specs.Reading.{request};
+ghost use Rattle.reading.specs.Reading.{request};
 ghost use Rattle.console.specs.Console.{zeroRecord, scheduleIn};
 ghost use Rattle.console.specs.Finish.{mostBytes, printedBy, MayPrint, Ran};
 use exchange::record::Central;

@@ -1,8 +1,4 @@
--- The definitions that the contracts of `input` cite. A reader has to believe Lines, and Grammar or Reading:
--- `Laws` shows that these two say the same, and ties the rest to them.
-pub mod Lines
-pub mod Reading
-pub mod Grammar
+-- The definitions that the contracts of `input` cite. `Laws` ties them to the reading of a whole input, which `reading` defines.
 pub mod Reader
-pub mod Applied
+pub mod Fed
 pub mod Laws

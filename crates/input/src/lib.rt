@@ -1,4 +1,2 @@
-// The console's input: its lines in their order, read byte by byte into lent memory.
-pub mod progress;
+// The console's input, read byte by byte into lent memory.
 pub mod reader;
-mod rules;

@@ -1,12 +1,13 @@
 // Reads an input byte by byte, so that one of any length needs no more than the lent memory.
 ghost use mathlib.Core.Path.{_≡_};
-ghost use Rattle.input.specs.Reader.{lists, atLineStart, emptyReader, hasRoom, isReady, feedAll, feedingOf, endOf, isReadable};
-ghost use Rattle.input.specs.Applied.{ReaderReady, Fed, FedAll};
-use super::progress::Part;
-use super::progress::Progress;
-use super::progress::refuse;
-use super::rules::apply;
+ghost use Rattle.reading.specs.Held.{lists};
+ghost use Rattle.input.specs.Reader.{atLineStart, emptyReader, hasRoom, isReady, feedAll, feedingOf, endOf, isReadable};
+ghost use Rattle.input.specs.Fed.{ReaderReady, Fed, FedAll};
 use line::form::line_of;
+use reading::progress::Part;
+use reading::progress::Progress;
+use reading::progress::refuse;
+use reading::rules::apply;
 
 // The lengths that the lent slices have: the most words that an input may ask for, and one entry more than a schedule may have,
 // so that a list that is too long is seen to be so.

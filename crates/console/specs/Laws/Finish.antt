@@ -12,13 +12,14 @@ use Rattle.outcome.specs.declared.refusal.Refusal.the-variants as Refusal
 use Rattle.octal.specs.Write.{Wrote}
 use Rattle.schedule.specs.Refusals.{scheduleVerdict}
 use Rattle.shared.specs.Answer.{scheduleAnswer}
-use Rattle.input.specs.Reading.{Request, Reading, noLine, readable, unreadable, readingOf}
-use Rattle.input.specs.Reader.{Lists, Room, inUse, readingAt, Feeding, feedAll, nothingFed, emptyReader, feedingOf, endOf, isReadable}
-use Rattle.input.specs.Laws.Blocks.{memory-length}
+use Rattle.reading.specs.Reading.{Request, Reading, noLine, readable, unreadable, readingOf}
+use Rattle.reading.specs.Held.{Lists, Room, inUse, readingAt}
+use Rattle.reading.specs.Laws.Blocks.{memory-length}
+use Rattle.reading.specs.declared.progress.Part.{Part}
+use Rattle.reading.specs.declared.progress.Part.the-variants as Last
+use Rattle.input.specs.Reader.{Feeding, feedAll, nothingFed, emptyReader, feedingOf, endOf, isReadable}
 use Rattle.input.specs.Laws.Feeding.{Complete, feeding-ready}
 use Rattle.input.specs.Laws.Input.{feed-input}
-use Rattle.input.specs.declared.progress.Part.{Part}
-use Rattle.input.specs.declared.progress.Part.the-variants as Last
 use Rattle.input.specs.declared.reader.Reader.{Reader}
 use Rattle.output.specs.Text.{refusedLine}
 use Rattle.console.specs.Console.{scheduleIn, printed, outputOn, outputOf}

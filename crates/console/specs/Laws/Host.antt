@@ -19,8 +19,8 @@ use Rattle.exchange.specs.Laws.Record.{of-word-width}
 use Rattle.exchange.specs.Laws.Verdicts.{of-host-accepted}
 use Rattle.single.specs.Order.{orElse}
 use Rattle.schedule.specs.Refusals.{listsFit, jobsListed, turnsFit, listsVerdict, everyJob, packageInside, packageClean, fieldInside, allApart, ownersVerdict, scheduleVerdict}
-use Rattle.input.specs.Reading.{Request, Part, readable, readingOf}
-use Rattle.input.specs.Laws.Memory.{InputMemory, input-memory}
+use Rattle.reading.specs.Reading.{Request, Part, readable, readingOf}
+use Rattle.reading.specs.Laws.Memory.{InputMemory, input-memory}
 use Rattle.console.specs.Console.{zeroRecord, scheduleIn}
 
 -- the record that the console lends fits a memory of any length

@@ -17,8 +17,8 @@ use Rattle.exchange.specs.Record.{hostVerdict}
 use Rattle.single.specs.Order.{orElse}
 use Rattle.schedule.specs.Refusals.{listsFit, listsVerdict, ownersVerdict, scheduleVerdict}
 use Rattle.schedule.specs.Schedule.{Schedule}
-use Rattle.input.specs.Reading.{Request, Reading, noLine, readable, unreadable}
-use Rattle.input.specs.Reader.{firsts, keep}
+use Rattle.reading.specs.Reading.{Request, Reading, noLine, readable, unreadable}
+use Rattle.reading.specs.Held.{firsts, keep}
 use Rattle.console.specs.Console.{zeroRecord, scheduleIn, printed, outputOn}
 
 -- a list of which one entry more than n was kept, and that has no more than n, was kept whole

@@ -17,13 +17,14 @@ use Rattle.schedule.specs.Laws.Projection.{length-back}
 use Rattle.schedule.specs.Laws.Refusals.{accepted-lists, accepted-ready}
 use Rattle.schedule.specs.Refusals.{scheduleVerdict}
 use Rattle.schedule.specs.Schedule.{scheduleEnd}
-use Rattle.input.specs.Laws.Blocks.{memory-length}
+use Rattle.reading.specs.Laws.Blocks.{memory-length}
+use Rattle.reading.specs.Laws.Grammar.{read-readable, memory-words}
+use Rattle.reading.specs.Held.{Lists, inUse, readingAt}
+use Rattle.reading.specs.Reading.{Part, Request, Reading, noLine, readable, unreadable, readingOf}
+use Rattle.reading.specs.declared.progress.Part as Last
+use Rattle.reading.specs.declared.progress.Part.the-variants as Kind
 use Rattle.input.specs.Laws.Feeding.{complete}
-use Rattle.input.specs.Laws.Grammar.{read-readable, memory-words}
-use Rattle.input.specs.Reader.{Lists, inUse, readingAt, feedingOf, endOf, isReadable}
-use Rattle.input.specs.Reading.{Part, Request, Reading, noLine, readable, unreadable, readingOf}
-use Rattle.input.specs.declared.progress.Part as Last
-use Rattle.input.specs.declared.progress.Part.the-variants as Kind
+use Rattle.input.specs.Reader.{feedingOf, endOf, isReadable}
 use Rattle.input.specs.declared.reader.Reader.{Reader}
 use Rattle.output.specs.Laws.Lengths.{length-stints, length-words, length-refused}
 use Rattle.console.specs.Console.{scheduleIn, printed, outputOn, outputOf}

@@ -17,7 +17,7 @@ use Rattle.schedule.specs.Laws.Refusals.{ListsAccepted, accepted-lists}
 use Rattle.shared.specs.Answer.{Answered, answerTo, answerBy, scheduleOf, scheduleAnswer}
 use Rattle.shared.specs.Laws.Isolation.{same-verdict, one-each}
 use Rattle.shared.specs.declared.call.ScheduleAnswer.{ScheduleAnswer}
-use Rattle.input.specs.Reading.{Request, request}
+use Rattle.reading.specs.Reading.{Request, request}
 use Rattle.output.specs.Laws.Lengths.{length-stints}
 use Rattle.output.specs.Laws.Stints.{stints-padded}
 use Rattle.output.specs.Text.{stintsLines, wordLines, refusedLine}

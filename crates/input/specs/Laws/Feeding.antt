@@ -13,13 +13,15 @@ use Rattle.word.specs.Laws.Choice.{of-cond}
 use Rattle.word.specs.Laws.Tests.{both}
 use Rattle.line.specs.Form.{lineOf}
 use Rattle.line.specs.declared.form.Line.{Line}
-use Rattle.input.specs.Reading.{Request, Reading, noLine, readable, unreadable, lineTo}
-use Rattle.input.specs.Reader.{Lists, readingAt, held, refused, Ready, Room, keep, Feeding, feeding, feedTo, feedAll, atLineStart, heldBy, hasRoom, isReady, feedingOf, endOf, isReadable}
-use Rattle.input.specs.Applied.{Applied, ReaderReady, Fed, FedAll}
-use Rattle.input.specs.Laws.Entries.{entry-added, entries-full}
-use Rattle.input.specs.declared.progress.Part.{Part}
-use Rattle.input.specs.declared.progress.Part.the-variants as Last
-use Rattle.input.specs.declared.progress.Progress.{Progress}
+use Rattle.reading.specs.Reading.{Request, Reading, noLine, readable, unreadable, lineTo}
+use Rattle.reading.specs.Held.{Lists, readingAt, held, refused, Ready, Room, keep}
+use Rattle.reading.specs.Applied.{Applied}
+use Rattle.reading.specs.Laws.Entries.{entry-added, entries-full}
+use Rattle.reading.specs.declared.progress.Part.{Part}
+use Rattle.reading.specs.declared.progress.Part.the-variants as Last
+use Rattle.reading.specs.declared.progress.Progress.{Progress}
+use Rattle.input.specs.Reader.{Feeding, feeding, feedTo, feedAll, atLineStart, heldBy, hasRoom, isReady, feedingOf, endOf, isReadable}
+use Rattle.input.specs.Fed.{ReaderReady, Fed, FedAll}
 use Rattle.input.specs.declared.reader.Reader.{Reader}
 
 -- a byte after a line that has begun

@@ -11,9 +11,10 @@ use Rattle.line.specs.Form.{lineOf}
 use Rattle.line.specs.Laws.Long.{cut}
 use Rattle.line.specs.declared.form.Line.{Line}
 use Rattle.line.specs.declared.form.Line.the-variants.{Words, At, Word, Job, Stint, Unreadable}
-use Rattle.input.specs.Lines.{Lines, linesAfter, linesOf}
-use Rattle.input.specs.Reading.{Request, request, Part, afterWords, inBlock, inJobs, inStints, Reading, noLine, readable, unreadable, atTo, wordTo, jobTo, withJob, lineTo, allTo, ended, readingOf}
-use Rattle.input.specs.Reader.{firsts, keep, Feeding, feeding, feedTo, feedAll, nothingFed, endOf}
+use Rattle.reading.specs.Lines.{Lines, linesAfter, linesOf}
+use Rattle.reading.specs.Reading.{Request, request, Part, afterWords, inBlock, inJobs, inStints, Reading, noLine, readable, unreadable, atTo, wordTo, jobTo, withJob, lineTo, allTo, ended, readingOf}
+use Rattle.reading.specs.Held.{firsts, keep}
+use Rattle.input.specs.Reader.{Feeding, feeding, feedTo, feedAll, nothingFed, endOf}
 use Rattle.input.specs.Laws.Feeding.{feed-begun}
 
 -- bytes in two runs

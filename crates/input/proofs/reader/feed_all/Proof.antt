@@ -4,7 +4,7 @@ use Prim.Native.Nat.{_-_}
 use native.Mathlib.Omega.{arith}
 use borrow.Author.Needs.{needs}
 use lib.ListN.{length}
-use Rattle.input.specs.Reader.{lists}
+use Rattle.reading.specs.Held.{lists}
 use Rattle.input.specs.Laws.Feeding.{FeedingOn, feeding-start, feeding-next, feeding-end}
 use Rattle.input.proofs.reader.feed_all.Statement.{statement}
 use Rattle.input.proofs.reader.feed_all.Tie as tie

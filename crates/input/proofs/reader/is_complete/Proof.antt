@@ -1,12 +1,30 @@
 -- `input::reader::is_complete` meets its contract. Assumes nothing.
-use mathlib.Core.Path.{sym}
+use mathlib.Core.Bool.{true}
+use mathlib.Core.List.{[], _∷_}
+use mathlib.Core.Path.{_≡_, refl, sym}
 use native.Mathlib.Omega.{arith}
 use borrow.Author.Needs.{needs}
+use denote.Enum.Declared.{tagOf}
+use types.Run.{OneOf, miss}
 use Rattle.word.specs.Laws.Tests.{holds, fails}
+use Rattle.reading.specs.Reading.{Request}
+use Rattle.reading.specs.Held.{readingAt}
+use Rattle.reading.specs.declared.progress.Part.{Part}
+use Rattle.reading.specs.declared.progress.Part.the-variants as Last
+use Rattle.reading.proofs.progress.Part.{the-type}
+use Rattle.input.specs.Reader.{isReadable}
 use Rattle.input.specs.Laws.Feeding.{ready-by-test, feeding-no-room, feeding-not-ready, incomplete, line-begun, complete-at, start-incomplete, refused-incomplete}
-use Rattle.input.proofs.Parts.{readable-part}
 use Rattle.input.proofs.reader.is_complete.Statement.{statement}
 use Rattle.input.proofs.reader.is_complete.Tie as tie
+
+-- the last arm of the `match` on the kind of the last line
+readable-part : (part : Part) → OneOf (1 ∷ 2 ∷ 3 ∷ 4 ∷ []) (tagOf the-type part) → (q : Request) → isReadable (readingAt part q) ≡ true
+readable-part Last.Start k q = absurd (miss (1 ∷ 2 ∷ 3 ∷ 4 ∷ []) 0 tt k)
+readable-part Last.Words k q = refl
+readable-part (Last.Block b e) k q = refl
+readable-part Last.Jobs k q = refl
+readable-part Last.Stints k q = refl
+readable-part Last.Unreadable k q = absurd (miss (1 ∷ 2 ∷ 3 ∷ 4 ∷ []) 5 tt k)
 
 has-room-requires : tie.Need-has-room-requires
 has-room-requires c κs = search needs

@@ -1,0 +1,70 @@
+-- `reading::rules::on_at` meets its contract. Assumes nothing.
+use native.Mathlib.Omega.{arith}
+use borrow.Author.Needs.{needs}
+use Rattle.reading.specs.Laws.Refused.{line-refused}
+use Rattle.reading.specs.Laws.Blocks.{begin-first, at-or-below, below-end, begin-next}
+use Rattle.reading.proofs.Parts.{no-at}
+use Rattle.reading.proofs.rules.on_at.Statement.{statement}
+use Rattle.reading.proofs.rules.on_at.Tie as tie
+
+enum-told : tie.Need-enum-told
+enum-told c = search needs
+
+begin-requires : tie.Need-begin-requires
+begin-requires c κs = search needs
+
+enum-known-part : tie.Need-enum-known-part
+enum-known-part c = search needs
+
+refuse-requires : tie.Need-refuse-requires
+refuse-requires c κs = search needs
+
+returns : tie.Need-returns
+returns c =
+    let block = c .before .before .before .part .given .1 in
+    λ m e. line-refused (c .refuse .ensures) (at-or-below _ _ _ _ block (omega (arith, c .before .if1 .taken)))
+
+refuse-requires-2 : tie.Need-refuse-requires-2
+refuse-requires-2 c κs = search needs
+
+returns-2 : tie.Need-returns-2
+returns-2 c =
+    let s = c .before in
+    let block = s .before .before .before .part .given .1 in
+    λ m e. line-refused (c .refuse2 .ensures)
+    (below-end _ _ _ _ block (omega (arith, s .before .if1 .left, s .if2 .taken)))
+
+begin-requires-2 : tie.Need-begin-requires-2
+begin-requires-2 c κs = search needs
+
+refuse-requires-3 : tie.Need-refuse-requires-3
+refuse-requires-3 c κs = search needs
+
+returns-3 : tie.Need-returns-3
+returns-3 c = λ m e. begin-first _ _ _ m (c .before .enum-told .given .1) (c .begin .ensures) e
+
+returns-4 : tie.Need-returns-4
+returns-4 c =
+    let s = c .before in
+    let block = s .before .before .before .part .given .1 in
+    λ m e. begin-next _ _ _ _ _ m block (omega (arith, s .before .if1 .left)) (omega (arith, s .if2 .left)) (c .begin2 .ensures) e
+
+returns-5 : tie.Need-returns-5
+returns-5 c = λ m e. line-refused (c .refuse3 .ensures) (no-at (c .before .before .args .p .part) (c .before .match .keys3) _)
+
+pub on-at-spec : {M : Type 1} → statement M
+on-at-spec =
+    tie.close
+    (tie.spec
+    enum-told
+    begin-requires
+    enum-known-part
+    refuse-requires
+    returns
+    refuse-requires-2
+    returns-2
+    begin-requires-2
+    refuse-requires-3
+    returns-3
+    returns-4
+    returns-5)
