@@ -1,0 +1,15 @@
+-- `channel::codes::function` meets its contract: each return is the definition at the tests that led there. Assumes nothing.
+use Rattle.channel.specs.Codes.{functionOf}
+use Rattle.channel.proofs.codes.function.Statement.{statement}
+use Rattle.channel.proofs.codes.function.Tie as tie
+
+returns : tie.Need-returns
+unfolding functionOf
+returns c = rw (c .if1 .taken)
+
+returns-2 : tie.Need-returns-2
+unfolding functionOf
+returns-2 c = rw (c .if1 .left)
+
+pub function-spec : {M : Type 1} → statement M
+function-spec = tie.close (tie.spec returns returns-2)
