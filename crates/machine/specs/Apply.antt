@@ -1,0 +1,37 @@
+-- What an effect does to the machine. Assumes nothing.
+use mathlib.Core.List.{List}
+use Prim.Native.Nat.{ℕ, _+_}
+use lib.ListN.{set}
+use Rattle.word.specs.Fields.{part}
+use Rattle.exchange.specs.Jump.{Exchanged, exchanged}
+use Rattle.machine.specs.declared.effect.Effect.{Effect}
+use Rattle.machine.specs.declared.effect.Effect.the-variants.{Advance, Store, ReadCentral, WriteCentral, SetChannel, Exchange, Wait, Stop}
+use Rattle.machine.specs.Numbers.{advanced, stopped, withChannel, centralOf, withCentral}
+use Rattle.machine.specs.Machine.{Machine, machine, CentralSide, centralSide}
+
+-- "60, 62 move one word in five parts, top part first"
+unfoldable pub withParts : List ℕ → ℕ → ℕ → List ℕ
+withParts m i w =
+    set (set (set (set (set m i (part w 0)) (i + 1) (part w 1)) (i + 2) (part w 2)) (i + 3) (part w 3)) (i + 4) (part w 4)
+
+abbrev pub afterExchange : List ℕ → Exchanged → CentralSide
+afterExchange s o = centralSide (o .memory) (o .central .registers) (withCentral s (o .central))
+
+-- "26 exchanges at A"
+unfoldable pub exchangedAt : List ℕ → List ℕ → List ℕ → ℕ → CentralSide
+exchangedAt c x s at = afterExchange s (exchanged c (centralOf x s) at)
+
+-- processor n goes on after an exchange jump
+abbrev pub advancedAfter : Machine → ℕ → ℕ → ℕ → CentralSide → Machine
+advancedAfter h n p a o = machine (h .peripheral) (o .central) (o .registers) (advanced (o .numbers) n p a)
+
+-- "The stopped instruction changes nothing else"; "Unmet, the turn changes nothing (a wait)."
+unfoldable pub applied : Machine → ℕ → Effect → Machine
+applied h n (Advance p a) = machine (h .peripheral) (h .central) (h .registers) (advanced (h .numbers) n p a)
+applied h n (Store p a i v) = machine (set (h .peripheral) i v) (h .central) (h .registers) (advanced (h .numbers) n p a)
+applied h n (ReadCentral p a i w) = machine (withParts (h .peripheral) i w) (h .central) (h .registers) (advanced (h .numbers) n p a)
+applied h n (WriteCentral p a i w) = machine (h .peripheral) (set (h .central) i w) (h .registers) (advanced (h .numbers) n p a)
+applied h n (SetChannel p a i c) = machine (h .peripheral) (h .central) (h .registers) (advanced (withChannel (h .numbers) i c) n p a)
+applied h n (Exchange p a at) = advancedAfter h n p a (exchangedAt (h .central) (h .registers) (h .numbers) at)
+applied h n Wait = h
+applied h n (Stop why) = machine (h .peripheral) (h .central) (h .registers) (stopped (h .numbers) n why)

@@ -1,0 +1,186 @@
+-- Effects leave a machine as the host may lend it. Assumes nothing.
+use mathlib.Core.List.{List}
+use mathlib.Core.Path.{_≡_, refl, sym, subst, _∙_}
+use Prim.Native.Nat.{ℕ, _+_, _^_, _<_}
+use native.Mathlib.Omega.{arith}
+use lib.ListN.{set, length, length-set}
+use Rattle.word.specs.Fields.{part}
+use Rattle.word.specs.Laws.Bits.{bits-lt}
+use Rattle.outcome.specs.declared.stop.PeripheralStop.{PeripheralStop}
+use Rattle.channel.specs.Laws.Width.{Fits}
+use Rattle.channel.specs.declared.record.Channel.{Channel}
+use Rattle.exchange.specs.Memory as Memory
+use Rattle.exchange.specs.Jump.{exchanged}
+use Rattle.exchange.specs.Laws.Record.{word-width, of-word-width}
+use Rattle.exchange.specs.Laws.Package.{count-decoded}
+use Rattle.exchange.specs.Laws.Verdicts.{HostAccepted, PackageAccepted, host-accepted, of-host-accepted, of-package-accepted}
+use Rattle.exchange.specs.Laws.Jump.{exchange-length, exchange-host-accepted}
+use Rattle.exchange.specs.declared.record.Central.{Central}
+use Rattle.machine.specs.declared.effect.Effect.{Effect}
+use Rattle.machine.specs.declared.effect.Effect.the-variants.{Advance, Store, ReadCentral, WriteCentral, SetChannel, Exchange, Wait, Stop}
+use Rattle.machine.specs.Numbers.{advanced, stopped, withChannel, centralOf}
+use Rattle.machine.specs.Machine.{Machine, machine}
+use Rattle.machine.specs.Apply.{withParts, exchangedAt, applied}
+use Rattle.machine.specs.Widths.{Wide, ShortWords, Kept, Sound}
+use Rattle.machine.specs.Laws.Widths.{set-in, wide-advanced, wide-stopped, wide-channel, wide-controls, central-kept-advanced, central-kept-stopped, central-kept-channel, length-advanced, length-channel, length-controls, central-read}
+
+-- words of a peripheral memory
+pub short-set : (m : List ℕ) (i v : ℕ) → v < 2 ^ 12 → ShortWords m → ShortWords (set m i v)
+short-set m i v h w = record { word = λ j. set-in (λ (k y : ℕ). y < 2 ^ 12) m i j v h (w .word j) }
+
+pub short-parts : (m : List ℕ) (i w : ℕ) → ShortWords m → ShortWords (withParts m i w)
+unfolding withParts
+short-parts m i w h =
+    short-set _ (i + 4) (part w 4) (bits-lt w 0 12)
+    (short-set _ (i + 3) (part w 3) (bits-lt w 12 12)
+    (short-set _ (i + 2) (part w 2) (bits-lt w 24 12)
+    (short-set _ (i + 1) (part w 1) (bits-lt w 36 12) (short-set m i (part w 0) (bits-lt w 48 12) h))))
+
+pub length-parts : (m : List ℕ) (i w : ℕ) → length (withParts m i w) ≡ length m
+unfolding withParts
+length-parts m i w = simp length-set
+
+-- a word of central memory
+pub host-set : (m : List ℕ) (c : Central) (i w : ℕ) → w < 2 ^ 60 → HostAccepted m c → HostAccepted (set m i w) c
+host-set m c i w h l =
+    record {
+      nonempty = rw (length-set m i w) (l .nonempty);
+      at-most = rw (length-set m i w) (l .at-most);
+      words = of-word-width (set m i w) (λ j. set-in (λ (k y : ℕ). y < 2 ^ 60) m i j w h (word-width m (l .words) j));
+      fits = rw (length-set m i w) (l .fits);
+    }
+
+-- the exchange jump of 26 at an accepted package
+module _ (c x s : List ℕ) (at : ℕ) where
+  pub jump-host : 82 < length s → HostAccepted c (centralOf x s) → PackageAccepted c at
+      → HostAccepted (exchangedAt c x s at .central) (centralOf (exchangedAt c x s at .registers) (exchangedAt c x s at .numbers))
+  unfolding exchangedAt
+  jump-host room l r =
+      let m′ : List ℕ = exchanged c (centralOf x s) at .memory in
+      let d : Central = exchanged c (centralOf x s) at .central in
+      subst (HostAccepted m′) (sym (central-read s d room))
+      (host-accepted m′ d
+      (exchange-host-accepted c (centralOf x s) at (of-host-accepted c (centralOf x s) l) (of-package-accepted c at r)))
+
+  pub jump-length : PackageAccepted c at → length (exchangedAt c x s at .central) ≡ length c
+  unfolding exchangedAt
+  jump-length r = exchange-length c (centralOf x s) at (r .inside)
+
+  pub jump-count : length (exchangedAt c x s at .registers) ≡ 24
+  unfolding exchangedAt exchanged
+  jump-count = count-decoded (Memory.part c at 16)
+
+  pub jump-places : length (exchangedAt c x s at .numbers) ≡ length s
+  unfolding exchangedAt
+  jump-places = length-controls s _ _ _ _ _
+
+  pub jump-wide : Wide s → Wide (exchangedAt c x s at .numbers)
+  unfolding exchangedAt
+  jump-wide w = wide-controls s _ _ _ _ _ w
+
+-- each part of an effect
+module _ (m c x s : List ℕ) (k : Kept 4096 (machine m c x s)) where
+  advance-keeps : (n p a : ℕ) → n < 10 → p < 2 ^ 12 → a < 2 ^ 18 → Kept 4096 (machine m c x (advanced s n p a))
+  advance-keeps n p a h hp ha =
+      record {
+        size = k .size;
+        short = k .short;
+        host = subst (HostAccepted c) (sym (central-kept-advanced x s n p a h)) (k .host);
+        count = k .count;
+        places = length-advanced s n p a ∙ k .places;
+        wide = wide-advanced s n p a h hp ha (k .wide);
+      }
+
+  stop-keeps : (n : ℕ) (why : PeripheralStop) → n < 10 → Kept 4096 (machine m c x (stopped s n why))
+  stop-keeps n why h =
+      record {
+        size = k .size;
+        short = k .short;
+        host = subst (HostAccepted c) (sym (central-kept-stopped x s n why h)) (k .host);
+        count = k .count;
+        places = length-set s (20 + n) _ ∙ k .places;
+        wide = wide-stopped s n why h (k .wide);
+      }
+
+  store-keeps : (i v : ℕ) → v < 2 ^ 12 → Kept 4096 (machine (set m i v) c x s)
+  store-keeps i v h =
+      record {
+        size = length-set m i v ∙ k .size;
+        short = short-set m i v h (k .short);
+        host = k .host;
+        count = k .count;
+        places = k .places;
+        wide = k .wide;
+      }
+
+  parts-keep : (i w : ℕ) → Kept 4096 (machine (withParts m i w) c x s)
+  parts-keep i w =
+      record {
+        size = length-parts m i w ∙ k .size;
+        short = short-parts m i w (k .short);
+        host = k .host;
+        count = k .count;
+        places = k .places;
+        wide = k .wide;
+      }
+
+  word-keeps : (i w : ℕ) → w < 2 ^ 60 → Kept 4096 (machine m (set c i w) x s)
+  word-keeps i w h =
+      record {
+        size = k .size;
+        short = k .short;
+        host = host-set c (centralOf x s) i w h (k .host);
+        count = k .count;
+        places = k .places;
+        wide = k .wide;
+      }
+
+  channel-keeps : (i : ℕ) (d : Channel) → i < 12 → Fits d → Kept 4096 (machine m c x (withChannel s i d))
+  channel-keeps i d h f =
+      record {
+        size = k .size;
+        short = k .short;
+        host = subst (HostAccepted c) (sym (central-kept-channel x s i d h)) (k .host);
+        count = k .count;
+        places = length-channel s i d ∙ k .places;
+        wide = wide-channel s i d h f (k .wide);
+      }
+
+  jump-keeps : (at : ℕ) → PackageAccepted c at
+      → Kept 4096 (machine m (exchangedAt c x s at .central) (exchangedAt c x s at .registers) (exchangedAt c x s at .numbers))
+  jump-keeps at r =
+      record {
+        size = k .size;
+        short = k .short;
+        host = jump-host c x s at (omega (arith, k .places)) (k .host) r;
+        count = jump-count c x s at;
+        places = jump-places c x s at ∙ k .places;
+        wide = jump-wide c x s at (k .wide);
+      }
+
+-- an effect keeps the widths and lengths of everything that the host lends
+pub apply-keeps : (h : Machine) (n : ℕ) (e : Effect) → n < 10 → Sound (h .central) e → Kept 4096 h → Kept 4096 (applied h n e)
+unfolding applied
+apply-keeps h n (Advance p a) l f k = advance-keeps _ _ _ _ k n p a l (f .0) (f .1)
+apply-keeps h n (Store p a i v) l f k =
+    advance-keeps _ _ _ _ (store-keeps _ _ _ _ k i v (f .1 .1)) n p a l (f .0 .0) (f .0 .1)
+apply-keeps h n (ReadCentral p a i w) l f k = advance-keeps _ _ _ _ (parts-keep _ _ _ _ k i w) n p a l (f .0 .0) (f .0 .1)
+apply-keeps h n (WriteCentral p a i w) l f k =
+    advance-keeps _ _ _ _ (word-keeps _ _ _ _ k i w (f .1 .1)) n p a l (f .0 .0) (f .0 .1)
+apply-keeps h n (SetChannel p a i d) l f k =
+    advance-keeps _ _ _ _ (channel-keeps _ _ _ _ k i d (f .1 .0) (f .1 .1)) n p a l (f .0 .0) (f .0 .1)
+apply-keeps h n (Exchange p a at) l f k = advance-keeps _ _ _ _ (jump-keeps _ _ _ _ k at (f .1)) n p a l (f .0 .0) (f .0 .1)
+apply-keeps h n Wait l f k = k
+apply-keeps h n (Stop why) l f k = stop-keeps _ _ _ _ k n why l
+
+-- and the length of central memory
+pub apply-length : (h : Machine) (n : ℕ) (e : Effect) → Sound (h .central) e → length (applied h n e .central) ≡ length (h .central)
+unfolding applied
+apply-length h n (Advance p a) f = refl
+apply-length h n (Store p a i v) f = refl
+apply-length h n (ReadCentral p a i w) f = refl
+apply-length h n (WriteCentral p a i w) f = length-set (h .central) i w
+apply-length h n (SetChannel p a i d) f = refl
+apply-length h n (Exchange p a at) f = jump-length (h .central) (h .registers) (h .numbers) at (f .1)
+apply-length h n Wait f = refl
+apply-length h n (Stop why) f = refl

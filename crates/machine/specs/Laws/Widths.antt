@@ -1,0 +1,234 @@
+-- The widths of the 84 numbers: what they say of each number, and that every change keeps them. Which changes leave the central
+-- processor's record as it is, and that a stored record is read back. Assumes nothing.
+use mathlib.Core.Bool.{true}
+use mathlib.Core.List.{List, [], _∷_}
+use mathlib.Core.Path.{_≡_, refl, sym, _∙_}
+use Prim.Native.Nat.{ℕ, zero, suc, _+_, _%_, _^_, _≤_, _<_}
+use native.Mathlib.Omega.{arith}
+use borrow.Author.Tests.{ltb-true, lt-ltb, le-ltb}
+use lib.Dec.{ltb}
+use lib.ListN.{getD, set, length, length-set}
+use lib.Seq.{getD-set-same, getD-set-other, set-getD}
+use Rattle.outcome.specs.Numbers.{peripheralStopNumber}
+use Rattle.outcome.specs.declared.stop.PeripheralStop.{PeripheralStop}
+use Rattle.outcome.specs.declared.stop.PeripheralStop.the-variants as Peripheral
+use Rattle.channel.specs.Laws.Width.{Fits}
+use Rattle.channel.specs.declared.record.Channel.{Channel}
+use Rattle.exchange.specs.declared.record.Central.{Central}
+use Rattle.machine.specs.Numbers.{processorOf, stopListed, advanced, stopped, flag, channelOf, withChannel, centralOf, withControls, withCentral, clockOf}
+use Rattle.machine.specs.Widths.{numberFits, Wide}
+
+-- what holds of the new value at its place, and of the value at place j before, holds of the value at j after
+pub set-in : (P : ℕ → ℕ → Type 0) (l : List ℕ) (i j v : ℕ) → P i v → P j (getD l j 0) → P j (getD (set l i v) j 0)
+set-in P [] i j v p q = q
+set-in P (x ∷ l) zero zero v p q = p
+set-in P (x ∷ l) zero (suc j) v p q = q
+set-in P (x ∷ l) (suc i) zero v p q = q
+set-in P (x ∷ l) (suc i) (suc j) v p q = set-in (λ (k : ℕ). P (suc k)) l i j v p q
+
+-- a number stored where it stands already
+pub set-own : (l : List ℕ) (i : ℕ) → set l i (getD l i 0) ≡ l
+set-own l i = set-getD l i 0
+
+-- what is asked at each place
+module _ (i v : ℕ) where
+  at-p : i < 10 → numberFits i v ≡ ltb v (2 ^ 12)
+  unfolding numberFits
+  at-p h = rw (lt-ltb i 10 h)
+
+  at-a : 10 ≤ i → i < 20 → numberFits i v ≡ ltb v (2 ^ 18)
+  unfolding numberFits
+  at-a g h = rw (le-ltb i 10 g, lt-ltb i 20 h)
+
+  at-stop : 20 ≤ i → i < 30 → numberFits i v ≡ stopListed v
+  unfolding numberFits
+  at-stop g h = rw (le-ltb i 10 (omega arith), le-ltb i 20 g, lt-ltb i 30 h)
+
+  at-flag : 30 ≤ i → i < 66 → numberFits i v ≡ true
+  unfolding numberFits
+  at-flag g h = rw (le-ltb i 10 (omega arith), le-ltb i 20 (omega arith), le-ltb i 30 g, lt-ltb i 66 h)
+
+  at-word : 66 ≤ i → i < 78 → numberFits i v ≡ ltb v (2 ^ 12)
+  unfolding numberFits
+  at-word g h =
+      rw (le-ltb i 10 (omega arith), le-ltb i 20 (omega arith), le-ltb i 30 (omega arith), le-ltb i 66 g, lt-ltb i 78 h)
+
+  at-central : 78 ≤ i → i < 83 → numberFits i v ≡ true
+  unfolding numberFits
+  at-central g h =
+      rw (
+        le-ltb i 10 (omega arith),
+        le-ltb i 20 (omega arith),
+        le-ltb i 30 (omega arith),
+        le-ltb i 66 (omega arith),
+        le-ltb i 78 g,
+        lt-ltb i 83 h,
+      )
+
+at-clock : (v : ℕ) → numberFits 83 v ≡ ltb v (2 ^ 12)
+unfolding numberFits
+at-clock v = refl
+
+-- the widths, place by place
+module _ (s : List ℕ) (w : Wide s) where
+  pub processor-short : (n : ℕ) → n < 10 → (processorOf s n .p < 2 ^ 12) × (processorOf s n .a < 2 ^ 18)
+  processor-short n h = (
+    ltb-true (getD s n 0) (2 ^ 12) (sym (at-p n (getD s n 0) h) ∙ w .at n),
+    ltb-true (getD s (10 + n) 0) (2 ^ 18) (sym (at-a (10 + n) (getD s (10 + n) 0) (omega arith) (omega arith)) ∙ w .at (10 + n)),
+  )
+
+  pub stop-listed : (n : ℕ) → n < 10 → stopListed (processorOf s n .stop) ≡ true
+  stop-listed n h = sym (at-stop (20 + n) (getD s (20 + n) 0) (omega arith) (omega arith)) ∙ w .at (20 + n)
+
+  pub channel-fits : (i : ℕ) → i < 12 → Fits (channelOf s i)
+  channel-fits i h =
+      ltb-true (getD s (66 + i) 0) (2 ^ 12) (sym (at-word (66 + i) (getD s (66 + i) 0) (omega arith) (omega arith)) ∙ w .at (66 + i))
+
+  pub clock-short : clockOf s < 2 ^ 12
+  clock-short = ltb-true (clockOf s) (2 ^ 12) (sym (at-clock (clockOf s)) ∙ w .at 83)
+
+pub wide-set : (s : List ℕ) (i v : ℕ) → numberFits i v ≡ true → Wide s → Wide (set s i v)
+wide-set s i v h w = record { at = λ j. set-in (λ (k y : ℕ). numberFits k y ≡ true) s i j v h (w .at j) }
+
+-- every stop of a peripheral processor is one of 31 to 36
+stop-number : (why : PeripheralStop) → stopListed (peripheralStopNumber why) ≡ true
+stop-number Peripheral.CentralAddress = refl
+stop-number Peripheral.NoChannel = refl
+stop-number Peripheral.PackagePastEnd = refl
+stop-number Peripheral.StrayBits = refl
+stop-number Peripheral.FieldPastEnd = refl
+stop-number Peripheral.UnfitCode = refl
+
+-- each change of the numbers keeps their widths
+pub wide-advanced : (s : List ℕ) (n p a : ℕ) → n < 10 → p < 2 ^ 12 → a < 2 ^ 18 → Wide s → Wide (advanced s n p a)
+wide-advanced s n p a h hp ha w =
+    wide-set (set s n p) (10 + n) a (at-a (10 + n) a (omega arith) (omega arith) ∙ lt-ltb a (2 ^ 18) ha)
+    (wide-set s n p (at-p n p h ∙ lt-ltb p (2 ^ 12) hp) w)
+
+pub wide-stopped : (s : List ℕ) (n : ℕ) (why : PeripheralStop) → n < 10 → Wide s → Wide (stopped s n why)
+wide-stopped s n why h w =
+    wide-set s (20 + n) (peripheralStopNumber why)
+    (at-stop (20 + n) (peripheralStopNumber why) (omega arith) (omega arith) ∙ stop-number why)
+    w
+
+pub wide-channel : (s : List ℕ) (i : ℕ) (c : Channel) → i < 12 → Fits c → Wide s → Wide (withChannel s i c)
+wide-channel s i c h f w =
+    wide-set _ (66 + i) (c .word) (at-word (66 + i) (c .word) (omega arith) (omega arith) ∙ lt-ltb (c .word) (2 ^ 12) f)
+    (wide-set _ (54 + i) (flag (c .mark)) (at-flag (54 + i) (flag (c .mark)) (omega arith) (omega arith))
+    (wide-set _ (42 + i) (flag (c .full)) (at-flag (42 + i) (flag (c .full)) (omega arith) (omega arith))
+    (wide-set s (30 + i) (flag (c .active)) (at-flag (30 + i) (flag (c .active)) (omega arith) (omega arith)) w)))
+
+pub wide-controls : (s : List ℕ) (p ra fl em stop : ℕ) → Wide s → Wide (withControls s p ra fl em stop)
+wide-controls s p ra fl em stop w =
+    wide-set _ 82 stop (at-central 82 stop (omega arith) (omega arith))
+    (wide-set _ 81 em (at-central 81 em (omega arith) (omega arith))
+    (wide-set _ 80 fl (at-central 80 fl (omega arith) (omega arith))
+    (wide-set _ 79 ra (at-central 79 ra (omega arith) (omega arith))
+    (wide-set s 78 p (at-central 78 p (omega arith) (omega arith)) w))))
+
+pub clock-ticks : (s : List ℕ) → Wide s → Wide (set s 83 ((clockOf s + 1) % 4096))
+clock-ticks s w =
+    wide-set s 83 ((clockOf s + 1) % 4096)
+    (at-clock ((clockOf s + 1) % 4096) ∙ lt-ltb ((clockOf s + 1) % 4096) (2 ^ 12) (omega arith))
+    w
+
+-- numbers of the peripheral processors, of the channels and of the clock are none of the central processor's
+module _ (x s : List ℕ) where
+  pub central-kept-below : (i v : ℕ) → i < 78 → centralOf x (set s i v) ≡ centralOf x s
+  central-kept-below i v h =
+      rw (
+        getD-set-other s i 78 v 0 (λ e. omega arith),
+        getD-set-other s i 79 v 0 (λ e. omega arith),
+        getD-set-other s i 80 v 0 (λ e. omega arith),
+        getD-set-other s i 81 v 0 (λ e. omega arith),
+        getD-set-other s i 82 v 0 (λ e. omega arith),
+      )
+
+  pub central-kept-clock : (v : ℕ) → centralOf x (set s 83 v) ≡ centralOf x s
+  central-kept-clock v =
+      rw (
+        getD-set-other s 83 78 v 0 (λ e. omega arith),
+        getD-set-other s 83 79 v 0 (λ e. omega arith),
+        getD-set-other s 83 80 v 0 (λ e. omega arith),
+        getD-set-other s 83 81 v 0 (λ e. omega arith),
+        getD-set-other s 83 82 v 0 (λ e. omega arith),
+      )
+
+pub central-kept-advanced : (x s : List ℕ) (n p a : ℕ) → n < 10 → centralOf x (advanced s n p a) ≡ centralOf x s
+central-kept-advanced x s n p a h =
+    central-kept-below x (set s n p) (10 + n) a (omega arith) ∙ central-kept-below x s n p (omega arith)
+
+pub central-kept-stopped : (x s : List ℕ) (n : ℕ) (why : PeripheralStop) → n < 10 → centralOf x (stopped s n why) ≡ centralOf x s
+central-kept-stopped x s n why h = central-kept-below x s (20 + n) (peripheralStopNumber why) (omega arith)
+
+pub central-kept-channel : (x s : List ℕ) (i : ℕ) (c : Channel) → i < 12 → centralOf x (withChannel s i c) ≡ centralOf x s
+central-kept-channel x s i c h =
+    let s₁ : List ℕ = set s (30 + i) (flag (c .active)) in
+    let s₂ : List ℕ = set s₁ (42 + i) (flag (c .full)) in
+    let s₃ : List ℕ = set s₂ (54 + i) (flag (c .mark)) in
+    central-kept-below x s₃ (66 + i) (c .word) (omega arith)
+    ∙ central-kept-below x s₂ (54 + i) (flag (c .mark)) (omega arith)
+    ∙ central-kept-below x s₁ (42 + i) (flag (c .full)) (omega arith)
+    ∙ central-kept-below x s (30 + i) (flag (c .active)) (omega arith)
+
+-- no number is added and none is lost
+pub length-advanced : (s : List ℕ) (n p a : ℕ) → length (advanced s n p a) ≡ length s
+length-advanced s n p a = length-set (set s n p) (10 + n) a ∙ length-set s n p
+
+pub length-channel : (s : List ℕ) (i : ℕ) (c : Channel) → length (withChannel s i c) ≡ length s
+length-channel s i c = simp length-set
+
+pub length-controls : (s : List ℕ) (p ra fl em stop : ℕ) → length (withControls s p ra fl em stop) ≡ length s
+length-controls s p ra fl em stop = simp length-set
+
+-- the central processor's own record, stored where it stands already
+pub controls-own : (x s : List ℕ) → withCentral s (centralOf x s) ≡ s
+controls-own x s = rw (set-own s 78, set-own s 79, set-own s 80, set-own s 81, set-own s 82)
+
+-- a number is read back after another is stored at a later place
+pub still : (l : List ℕ) (i j v w : ℕ) → i < j → getD l i 0 ≡ w → getD (set l j v) i 0 ≡ w
+still l i j v w h e = getD-set-other l j i v 0 (λ z. omega arith) ∙ e
+
+-- what is stored of a record is read back
+module _ (s : List ℕ) (p ra fl em stop : ℕ) (room : 82 < length s) where
+  abbrev s₁ : List ℕ
+  s₁ = set s 78 p
+
+  abbrev s₂ : List ℕ
+  s₂ = set s₁ 79 ra
+
+  abbrev s₃ : List ℕ
+  s₃ = set s₂ 80 fl
+
+  abbrev s₄ : List ℕ
+  s₄ = set s₃ 81 em
+
+  read-p : getD (withControls s p ra fl em stop) 78 0 ≡ p
+  read-p =
+      still s₄ 78 82 stop p (omega arith)
+      (still s₃ 78 81 em p (omega arith)
+      (still s₂ 78 80 fl p (omega arith) (still s₁ 78 79 ra p (omega arith) (getD-set-same s 78 p 0 (omega arith)))))
+
+  read-ra : getD (withControls s p ra fl em stop) 79 0 ≡ ra
+  read-ra =
+      still s₄ 79 82 stop ra (omega arith)
+      (still s₃ 79 81 em ra (omega arith)
+      (still s₂ 79 80 fl ra (omega arith) (getD-set-same s₁ 79 ra 0 (simp length-set (omega arith)))))
+
+  read-fl : getD (withControls s p ra fl em stop) 80 0 ≡ fl
+  read-fl =
+      still s₄ 80 82 stop fl (omega arith)
+      (still s₃ 80 81 em fl (omega arith) (getD-set-same s₂ 80 fl 0 (simp length-set (omega arith))))
+
+  read-em : getD (withControls s p ra fl em stop) 81 0 ≡ em
+  read-em = still s₄ 81 82 stop em (omega arith) (getD-set-same s₃ 81 em 0 (simp length-set (omega arith)))
+
+  read-stop : getD (withControls s p ra fl em stop) 82 0 ≡ stop
+  read-stop = getD-set-same s₄ 82 stop 0 (simp length-set room)
+
+  pub controls-read : (x : List ℕ)
+      → centralOf x (withControls s p ra fl em stop) ≡ record { p = p; ra = ra; fl = fl; em = em; registers = x; stop = stop }
+  controls-read x = rw (read-p, read-ra, read-fl, read-em, read-stop)
+
+pub central-read : (s : List ℕ) (d : Central) → 82 < length s → centralOf (d .registers) (withCentral s d) ≡ d
+central-read s d room = controls-read s (d .p) (d .ra) (d .fl) (d .em) (d .stop) room (d .registers)
