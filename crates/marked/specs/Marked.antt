@@ -1,15 +1,14 @@
 -- The twelve marked results of document 01 as one table, `Marked`, with one theorem that all hold, `marked`.
--- Still to come, with the peripheral turn: SOD on a processor's memory; its two sums are here.
 -- Assumes nothing.
 use mathlib.Core.Path.{_≡_, refl}
 use mathlib.Core.List.{List, _∷_}
-use Prim.Native.Nat.{ℕ, _-_, _^_, _≤_, _<_}
+use Prim.Native.Nat.{ℕ, _+_, _-_, _^_, _≤_, _<_}
 use native.Mathlib.Omega.{arith}
-use borrow.Author.Tests.{le-leb, lt-ltb, le-ltb}
+use borrow.Author.Tests.{le-leb, lt-ltb, le-ltb, eq-eqb}
 use lib.Count.{onesIn}
 use lib.ListN.{getD, set}
-use Rattle.word.specs.Bits.{low}
-use Rattle.word.specs.Sums.{complement, sum, difference}
+use Rattle.word.specs.Bits.{bits, low}
+use Rattle.word.specs.Sums.{complement, sum}
 use Rattle.shift.specs.Shifts.{rotateLeft, mask, shiftRightSigned, shiftA, countOnes}
 use Rattle.shift.specs.Floating.{magnitude, coefficientOf, exponentFrom, exponentOf}
 use Rattle.instruction.specs.Instruction.{constantAt, decoded, isLong, isLeftOut, isFit, parcelsOf}
@@ -20,6 +19,14 @@ use Rattle.central.specs.Apply.{returnJumped, applied}
 use Rattle.central.specs.Turn.{ranAt, turned, turnEnd, parcelsRun, wordRun, turnOf}
 use Rattle.central.specs.Laws.Place.{bounds, place-back}
 use Rattle.central.specs.declared.address.Bounds.{Bounds}
+use Rattle.machine.specs.Numbers.{processorOf, advanced}
+use Rattle.machine.specs.Machine.{Machine, machine}
+use Rattle.machine.specs.Apply as Apply
+use Rattle.machine.specs.declared.effect.Effect.the-variants.{Store}
+use Rattle.machine.specs.declared.numbers.Processor.{Processor}
+use Rattle.processor.specs.Addresses.{word, onward}
+use Rattle.processor.specs.Memory.{operationOf}
+use Rattle.peripheral.specs.Turn as Peripheral
 
 pub record Marked : Type 0 where
   -- 3 plus its complement is +0, at both widths
@@ -36,9 +43,15 @@ pub record Marked : Type 0 where
   -- SHN 06 of 400001 is 000140; SHN 71 of it 004000
   shn-06 : shiftA 0o06 0o400001 ≡ 0o000140
   shn-71 : shiftA 0o71 0o400001 ≡ 0o004000
-  -- SOD of 0 leaves A 777776, memory 7776
-  sod-a : difference 18 0 1 ≡ 0o777776
-  sod-memory : low 12 (difference 18 0 1) ≡ 0o7776
+  -- SOD of 0 leaves A 777776, memory 7776: the turn of a running processor n with 37 and d at P, where the word at d is 0. P goes one word
+  -- on, and nothing else changes
+  sod : (h : Machine) (n d : ℕ) → processorOf (h .numbers) n .stop ≡ 0
+      → d < 64
+      → word (h .peripheral) (processorOf (h .numbers) n .p) ≡ 0o3700 + d
+      → word (h .peripheral) d ≡ 0
+      → Peripheral.turnOf h n
+      ≡ machine (set (h .peripheral) d 0o7776) (h .central) (h .registers)
+      (advanced (h .numbers) n (onward (processorOf (h .numbers) n .p) 1) 0o777776)
   -- 010 to K = 2 at P = 0 writes 04000000010000000000, P is 3: the word 01000000020000000000 in a field of 10 words, whatever the
   -- registers, the other words, RA and EM
   return-jump : (r : List ℕ) (f : List ℕ) (ra em : ℕ)
@@ -52,8 +65,27 @@ pub record Marked : Type 0 where
   unpacked-coefficient : coefficientOf 0o17760000000000000005 ≡ 5
   unpacked-exponent : exponentOf 0o17760000000000000005 ≡ 0o777776
 
+-- the fields of 37 with d
+row-of-sod : (d : ℕ) → d < 64 → bits (0o3700 + d) 9 3 ≡ 3
+row-of-sod d l = omega arith
+
+code-of-sod : (d : ℕ) → d < 64 → bits (0o3700 + d) 6 3 ≡ 7
+code-of-sod d l = omega arith
+
+d-of-sod : (d : ℕ) → d < 64 → low 6 (0o3700 + d) ≡ d
+d-of-sod d l = omega arith
+
+module _ (h : Machine) (n d : ℕ) where
+  abbrev q : Processor
+  q = processorOf (h .numbers) n
+
+  sod-effect : d < 64 → word (h .peripheral) (q .p) ≡ 0o3700 + d → word (h .peripheral) d ≡ 0
+      → Peripheral.effectOf (h .peripheral) (h .central) (h .numbers) q ≡ Store (onward (q .p) 1) 0o777776 d 0o7776
+  unfolding Peripheral.effectFrom operationOf sum
+  sod-effect l at zero = rw (at, row-of-sod d l, code-of-sod d l, d-of-sod d l, zero)
+
 pub marked : Marked
-unfolding sum rotateLeft mask shiftRightSigned shiftA onesIn magnitude coefficientOf exponentFrom exponentOf turnOf placeOf parcelsRun ranAt decoded constantAt isFit isLeftOut isLong parcelsOf effectOf branchOf applied returnJumped
+unfolding sum rotateLeft mask shiftRightSigned shiftA onesIn magnitude coefficientOf exponentFrom exponentOf turnOf placeOf parcelsRun ranAt decoded constantAt isFit isLeftOut isLong parcelsOf effectOf branchOf applied returnJumped Peripheral.turnOf Apply.applied
 marked =
     record {
       three-18 = refl;
@@ -65,8 +97,7 @@ marked =
       count-of-ones = refl;
       shn-06 = refl;
       shn-71 = refl;
-      sod-a = refl;
-      sod-memory = refl;
+      sod = λ h n d runs l at zero. rw (eq-eqb (processorOf (h .numbers) n .stop) 0 runs, sod-effect h n d l at zero);
       return-jump = λ r f ra em. rw (place-back ra 0, place-back ra 2);
       last-word = λ b s h. rw (lt-ltb (b .fl - 1) (b .fl) (omega arith), place-back (b .ra) (b .fl - 1));
       past-last-word = λ b s. rw (le-ltb (b .fl) (b .fl) (omega arith));

@@ -1,0 +1,49 @@
+-- `peripheral::effect::sixth_row` meets its contract. Assumes nothing.
+use borrow.Author.Needs.{needs}
+use lib.ListN.{List·getD-eq-default}
+use Rattle.peripheral.proofs.effect.sixth_row.Tie as tie
+use Rattle.word.proofs.Match.{none-le}
+use Rattle.peripheral.specs.Turn.{sixthRowOf, centralWords}
+use Rattle.peripheral.proofs.effect.sixth_row.Statement.{statement}
+
+read-central-requires : tie.Need-read-central-requires
+read-central-requires c κs = search needs
+
+write-central-requires : tie.Need-write-central-requires
+write-central-requires c κs = search needs
+
+channel-jump-requires : tie.Need-channel-jump-requires
+channel-jump-requires c κs = search needs
+
+returns : tie.Need-returns
+unfolding sixthRowOf
+returns c = rw (c .before .match .keys1) (c .read-central .ensures)
+
+returns-2 : tie.Need-returns-2
+unfolding sixthRowOf
+returns-2 c = rw (c .match .keys2)
+
+returns-3 : tie.Need-returns-3
+unfolding sixthRowOf
+returns-3 c = rw (c .before .match .keys3) (c .write-central .ensures)
+
+returns-4 : tie.Need-returns-4
+unfolding sixthRowOf
+returns-4 c = rw (c .match .keys4)
+
+returns-5 : tie.Need-returns-5
+unfolding sixthRowOf
+returns-5 c = rw (List·getD-eq-default (centralWords _ _ _ _) _ (none-le 4 _ (c .before .match .rest))) (c .channel-jump .ensures)
+
+pub sixth-row-spec : {M : Type 1} → statement M
+sixth-row-spec =
+    tie.close
+    (tie.spec
+    read-central-requires
+    write-central-requires
+    channel-jump-requires
+    returns
+    returns-2
+    returns-3
+    returns-4
+    returns-5)

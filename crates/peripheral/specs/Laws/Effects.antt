@@ -1,0 +1,111 @@
+-- The effect of every instruction names places that are there, and values of their widths. c is the central memory. Assumes nothing.
+use mathlib.Core.List.{List}
+use mathlib.Core.Path.{_≡_, refl}
+use Prim.Native.Nat.{ℕ, _+_, _-_, _^_, _<_}
+use native.Mathlib.Omega.{arith}
+use borrow.Author.Tests.{ltb-true}
+use lib.Dec.{ltb}
+use lib.ListN.{getD, length}
+use Rattle.word.specs.Bits.{bits, low}
+use Rattle.word.specs.Laws.Choice.{of-cond, of-getD}
+use Rattle.word.specs.Laws.Fields.{from-parts-lt}
+use Rattle.outcome.specs.declared.refusal.Verdict.{Verdict}
+use Rattle.outcome.specs.declared.refusal.Verdict.the-variants as Call
+use Rattle.exchange.specs.Jump.{packageVerdict}
+use Rattle.exchange.specs.Laws.Verdicts.{package-accepted}
+use Rattle.machine.specs.Numbers.{centralP}
+use Rattle.machine.specs.Widths.{Wide, Sound}
+use Rattle.machine.specs.declared.numbers.Processor.{Processor}
+use Rattle.processor.specs.Addresses.{word, onward, indexed}
+use Rattle.peripheral.specs.Central.{exchangeBy, exchangeOf, readCentral, joined, writeCentral}
+use Rattle.peripheral.specs.Channels.{channelJump, changeOn}
+use Rattle.peripheral.specs.Turn.{leftOut, afterConstants, secondRowOf, centralWords, channelWords, sixthRowOf, seventhRowOf, rows, effectFrom, effectOf}
+use Rattle.processor.specs.Widths.{Memory, Held}
+use Rattle.processor.specs.Laws.Addresses.{onward-lt, indexed-lt}
+use Rattle.processor.specs.Laws.Effects.{pass-sound, jump-sound, short-sound, long-sound, operation-sound}
+use Rattle.peripheral.specs.Laws.Channels.{channel-jump-sound, input-from-sound, output-to-sound, change-on-sound}
+
+module _ (c : List ℕ) (q : Processor) (g : Held q) where
+  -- 26: a package that no fault refuses is accepted
+  exchange-by-sound : (v : Verdict) → packageVerdict c (q .a) ≡ v → Sound c (exchangeBy q v)
+  exchange-by-sound Call.Accepted e = (pass-sound c q g, package-accepted c (q .a) e)
+  exchange-by-sound (Call.Refused r) e = tt
+
+  pub exchange-sound : Sound c (exchangeOf c q)
+  unfolding exchangeOf
+  exchange-sound = exchange-by-sound (packageVerdict c (q .a)) refl
+
+  pub read-central-sound : (d : ℕ) → d < 64 → Sound c (readCentral c q d)
+  unfolding readCentral
+  read-central-sound d l = of-cond (Sound c) (ltb (q .a) (length c)) (λ e. (pass-sound c q g, l)) (λ e. tt)
+
+pub joined-lt : (m : List ℕ) → Memory m → (d : ℕ) → joined m d < 2 ^ 60
+unfolding joined
+joined-lt m h d =
+    from-parts-lt (word m d) (word m (d + 1)) (word m (d + 2)) (word m (d + 3)) (word m (d + 4))
+    (h .short .word d)
+    (h .short .word (d + 1))
+    (h .short .word (d + 2))
+    (h .short .word (d + 3))
+    (h .short .word (d + 4))
+
+pub write-central-sound : (c : List ℕ) (q : Processor) → Held q → (m : List ℕ) → Memory m → (d : ℕ) → Sound c (writeCentral m c q d)
+unfolding writeCentral
+write-central-sound c q g m h d =
+    of-cond (Sound c) (ltb (q .a) (length c))
+    (λ e. (pass-sound c q g, (ltb-true (q .a) (length c) e, joined-lt m h d)))
+    (λ e. tt)
+
+module _ (m c s : List ℕ) (q : Processor) (h : Memory m) (w : Wide s) (p : centralP s < 2 ^ 18) (g : Held q) where
+  pub second-row-sound : (k d : ℕ) → d < 64 → Sound c (secondRowOf m c s q k d)
+  unfolding secondRowOf
+  second-row-sound k d l =
+      of-cond (Sound c) (ltb k 4) (λ e. long-sound c q g m h k d l)
+      (λ e.
+      of-getD (Sound c) (afterConstants c s q) (k - 4) leftOut
+      (pass-sound c q g, (pass-sound c q g, (exchange-sound c q g, ((onward-lt (q .p) 1, p), tt))))
+      tt)
+
+  pub sixth-row-sound : (k d : ℕ) → d < 64 → Sound c (sixthRowOf m c s q k d)
+  unfolding sixthRowOf
+  sixth-row-sound k d l =
+      of-getD (Sound c) (centralWords m c q d) k (channelJump m s q k d)
+      (read-central-sound c q g d l, (tt, (write-central-sound c q g m h d, (tt, tt))))
+      (channel-jump-sound c s q g m h k d)
+
+  pub seventh-row-sound : (k d : ℕ) → Sound c (seventhRowOf m s q k d)
+  unfolding seventhRowOf
+  seventh-row-sound k d =
+      of-getD (Sound c) (channelWords s q d) k (changeOn m s q k d)
+      (input-from-sound c s q w d, (tt, (output-to-sound c s q g d, (tt, tt))))
+      (change-on-sound c s q w g m h k d)
+
+  rows-sound : (k d i : ℕ) → d < 64 → Sound c (getD (rows m c s q k d) i leftOut)
+  rows-sound k d i l =
+      of-getD (Sound c) (rows m c s q k d) i leftOut (
+        jump-sound c q g m h k d,
+        (
+          short-sound c q g k d l,
+          (
+            second-row-sound k d l,
+            (
+              operation-sound c m h (q .a) k d (onward (q .p) 1) (g .a) (omega arith) (onward-lt (q .p) 1),
+              (
+                operation-sound c m h (q .a) k (word m d) (onward (q .p) 1) (g .a) (h .short .word d) (onward-lt (q .p) 1),
+                (
+                  operation-sound c m h (q .a) k (indexed m (q .p) d) (onward (q .p) 2) (g .a) (indexed-lt m h (q .p) d) (onward-lt (q .p) 2),
+                  (sixth-row-sound k d l, (seventh-row-sound k d, tt)),
+                ),
+              ),
+            ),
+          ),
+        ),
+      )
+      tt
+
+  effect-from-sound : (v : ℕ) → Sound c (effectFrom m c s q v)
+  unfolding effectFrom
+  effect-from-sound v = rows-sound (bits v 6 3) (low 6 v) (bits v 9 3) (omega arith)
+
+pub effect-sound : (m c s : List ℕ) (q : Processor) → Memory m → Wide s → centralP s < 2 ^ 18 → Held q → Sound c (effectOf m c s q)
+effect-sound m c s q h w p g = effect-from-sound m c s q h w p g (word m (q .p))

@@ -1,0 +1,76 @@
+-- A turn of a peripheral processor: "One instruction". Assumes nothing.
+use mathlib.Core.Bool.{cond}
+use mathlib.Core.List.{List, [], _∷_}
+use Prim.Native.Nat.{ℕ, _-_}
+use lib.Dec.{eqb, ltb}
+use lib.ListN.{getD}
+use Rattle.word.specs.Bits.{bits, low}
+use Rattle.outcome.specs.declared.stop.PeripheralStop.the-variants as Because
+use Rattle.machine.specs.Numbers.{processorOf, centralP}
+use Rattle.machine.specs.Machine.{Machine}
+use Rattle.machine.specs.Apply.{applied}
+use Rattle.machine.specs.declared.effect.Effect.{Effect}
+use Rattle.machine.specs.declared.effect.Effect.the-variants.{Advance, Stop}
+use Rattle.machine.specs.declared.numbers.Processor.{Processor}
+use Rattle.processor.specs.Addresses.{word, onward, indexed}
+use Rattle.processor.specs.Jumps.{pass, jumpOf}
+use Rattle.processor.specs.Constants.{shortOf, longOf}
+use Rattle.processor.specs.Memory.{operationOf}
+use Rattle.peripheral.specs.Central.{exchangeOf, readCentral, writeCentral}
+use Rattle.peripheral.specs.Channels.{channelJump, inputFrom, outputTo, changeOn}
+
+-- "codes left out stop with 36, tested before the others": 61, 63, 71 and 73, whatever A and d
+abbrev pub leftOut : Effect
+leftOut = Stop Because.UnfitCode
+
+-- 24 and 25 pass, 26 exchanges, "27 gives the central P"
+abbrev pub afterConstants : List ℕ → List ℕ → Processor → List Effect
+afterConstants c s q = pass q ∷ pass q ∷ exchangeOf c q ∷ Advance (onward (q .p) 1) (centralP s) ∷ []
+
+-- code 2k
+unfoldable pub secondRowOf : List ℕ → List ℕ → List ℕ → Processor → ℕ → ℕ → Effect
+secondRowOf m c s q k d = cond (ltb k 4) (longOf m q k d) (getD (afterConstants c s q) (k - 4) leftOut)
+
+-- 60 to 63
+abbrev pub centralWords : List ℕ → List ℕ → Processor → ℕ → List Effect
+centralWords m c q d = readCentral c q d ∷ leftOut ∷ writeCentral m c q d ∷ leftOut ∷ []
+
+-- code 6k: these, and the channel jumps 64 to 67
+unfoldable pub sixthRowOf : List ℕ → List ℕ → List ℕ → Processor → ℕ → ℕ → Effect
+sixthRowOf m c s q k d = getD (centralWords m c q d) k (channelJump m s q k d)
+
+-- 70 to 73
+abbrev pub channelWords : List ℕ → Processor → ℕ → List Effect
+channelWords s q d = inputFrom s q d ∷ leftOut ∷ outputTo s q d ∷ leftOut ∷ []
+
+-- code 7k: these, and 74 to 77
+unfoldable pub seventhRowOf : List ℕ → List ℕ → Processor → ℕ → ℕ → Effect
+seventhRowOf m s q k d = getD (channelWords s q d) k (changeOn m s q k d)
+
+-- by the first digit of the code; k is the second, below 8, so that no default of a row is ever taken. The address is d for 3k, (d) for 4k, and m + (d) for 5k.
+abbrev pub rows : List ℕ → List ℕ → List ℕ → Processor → ℕ → ℕ → List Effect
+rows m c s q k d =
+    jumpOf m q k d
+    ∷ shortOf q k d
+    ∷ secondRowOf m c s q k d
+    ∷ operationOf m (q .a) k d (onward (q .p) 1)
+    ∷ operationOf m (q .a) k (word m d) (onward (q .p) 1)
+    ∷ operationOf m (q .a) k (indexed m (q .p) d) (onward (q .p) 2)
+    ∷ sixthRowOf m c s q k d
+    ∷ seventhRowOf m s q k d
+    ∷ []
+
+-- the instruction w: two digits of code, then d of six bits
+unfoldable pub effectFrom : List ℕ → List ℕ → List ℕ → Processor → ℕ → Effect
+effectFrom m c s q w = getD (rows m c s q (bits w 6 3) (low 6 w)) (bits w 9 3) leftOut
+
+-- the effect of the instruction at P, with own memory m, central memory c and the machine's numbers s
+abbrev pub effectOf : List ℕ → List ℕ → List ℕ → Processor → Effect
+effectOf m c s q = effectFrom m c s q (word m (q .p))
+
+-- "A turn of a stopped processor changes nothing."
+unfoldable pub turnOf : Machine → ℕ → Machine
+turnOf h n =
+    cond (eqb (processorOf (h .numbers) n .stop) 0)
+    (applied h n (effectOf (h .peripheral) (h .central) (h .numbers) (processorOf (h .numbers) n)))
+    h

@@ -1,0 +1,43 @@
+-- `processor::constants::long_value` meets its contract. Assumes nothing.
+use borrow.Author.Needs.{needs}
+use Rattle.processor.proofs.constants.long_value.Tie as tie
+use Rattle.word.proofs.Match.{last-arm}
+use Rattle.processor.specs.Constants.{longValue}
+use Rattle.processor.proofs.constants.long_value.Statement.{statement}
+
+sum18-requires : tie.Need-sum18-requires
+sum18-requires c κs = search needs
+
+logical-product-requires : tie.Need-logical-product-requires
+logical-product-requires c κs = search needs
+
+logical-difference-requires : tie.Need-logical-difference-requires
+logical-difference-requires c κs = search needs
+
+returns : tie.Need-returns
+unfolding longValue
+returns c = rw (c .match .keys1)
+
+returns-2 : tie.Need-returns-2
+unfolding longValue
+returns-2 c = rw (c .before .match .keys2, c .sum18 .ensures)
+
+returns-3 : tie.Need-returns-3
+unfolding longValue
+returns-3 c = rw (c .before .match .keys3, c .logical-product .ensures)
+
+returns-4 : tie.Need-returns-4
+unfolding longValue
+returns-4 c = rw (last-arm 3 _ (search needs) (c .before .match .rest), c .logical-difference .ensures)
+
+pub long-value-spec : {M : Type 1} → statement M
+long-value-spec =
+    tie.close
+    (tie.spec
+    sum18-requires
+    logical-product-requires
+    logical-difference-requires
+    returns
+    returns-2
+    returns-3
+    returns-4)
