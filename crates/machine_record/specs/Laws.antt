@@ -1,0 +1,9 @@
+-- Consequences of the definitions. Assumes nothing.
+pub mod Entries
+-- what number 5 lets by
+pub mod Record
+-- the record as 84 numbers and back is the record
+pub mod Numbers
+-- what an accepted call lends, and that what is handed back may be lent again
+pub mod Verdict
+pub mod Example

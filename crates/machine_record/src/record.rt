@@ -1,0 +1,12 @@
+// The machine's record.
+use channel::record::Channel;
+use exchange::record::Central;
+use machine::numbers::Processor;
+
+// All registers and channels of the machine. There are ten processor records, however many processors the peripheral memory has.
+pub struct MachineRecord {
+    pub central: Central,
+    pub clock: u64,
+    pub channels: [Channel; 12],
+    pub processors: [Processor; 10],
+}

@@ -1,0 +1,86 @@
+-- The calls by the results of their parts, and what is handed back may be lent again. Assumes nothing.
+use mathlib.Core.Bool.{true}
+use mathlib.Core.List.{List}
+use mathlib.Core.Path.{_≡_, sym, ap, subst, _∙_}
+use Prim.Native.Nat.{ℕ, _*_, _≤_, _<_}
+use lib.ListN.{length}
+use Rattle.outcome.specs.declared.refusal.Refusal.{Refusal}
+use Rattle.outcome.specs.declared.refusal.Verdict.the-variants as Call
+use Rattle.machine.specs.Machine.{Machine, machine}
+use Rattle.machine.specs.Widths.{Kept}
+use Rattle.machine_record.specs.Numbers.{numbersOf, recordOf, machineOf}
+use Rattle.machine_record.specs.Verdict.{processorsIn, machineVerdict, turnVerdict, runVerdict}
+use Rattle.machine_record.specs.Laws.Verdict.{turn-accepted, run-accepted, processors-few, machine-kept, lent-again}
+use Rattle.machine_record.specs.declared.record.MachineRecord.{MachineRecord}
+use Rattle.rounds.specs.Rounds.{processorTurned, ran, roundsOf}
+use Rattle.rounds.specs.Laws.Processors.{processor-keeps}
+use Rattle.rounds.specs.Laws.Rounds.{run-keeps}
+use Rattle.whole.specs.Call.{Left, left, leftBy, LeftByRun, leftByRun, leftAfter, turnTo, turnAnswerBy, turnAnswer, runTo, runAnswerBy, runAnswer}
+
+module _ (c m : List ℕ) (r : MachineRecord) where
+  -- the machine that is lent to turns
+  abbrev lent : List ℕ → Machine
+  lent s = machine m c (r .central .registers) s
+
+  module _ (s : List ℕ) (e : s ≡ numbersOf r) where
+    ready : machineVerdict true c m r ≡ Call.Accepted → length (r .central .registers) ≡ 24 → Kept (processorsIn m * 4096) (lent s)
+    ready a count = subst (λ (t : List ℕ). Kept (processorsIn m * 4096) (lent t)) (sym e) (machine-kept c m r a count)
+
+    pub turn-ready : (n : ℕ) → turnVerdict c m r n ≡ Call.Accepted → length (r .central .registers) ≡ 24
+        → Kept (processorsIn m * 4096) (lent s) × ((n < processorsIn m) × (processorsIn m ≤ 10))
+    turn-ready n v count = let a = turn-accepted c m r n v in (ready (a .1) count, (a .0, processors-few c m r (a .1) .1))
+
+    pub turn-is : (n : ℕ) (h : Machine) → h ≡ processorTurned (lent s) n → (o : MachineRecord) → o ≡ recordOf (h .registers) (h .numbers)
+        → left (h .central) (h .peripheral) o ≡ leftBy (processorTurned (machineOf c m r) n)
+    turn-is n h t o w =
+        ap (left (h .central) (h .peripheral)) w
+        ∙ ap leftBy (t ∙ ap (λ (l : List ℕ). processorTurned (lent l) n) e)
+
+    pub run-ready : (n : ℕ) → runVerdict c m r n ≡ Call.Accepted → length (r .central .registers) ≡ 24
+        → Kept (processorsIn m * 4096) (lent s) × (processorsIn m ≤ 10)
+    run-ready n v count = let a = run-accepted c m r n v in (ready (a .1) count, processors-few c m r (a .1) .1)
+
+    pub run-is : (n : ℕ) (h : Machine) (made : ℕ) → ran h made ≡ roundsOf n (processorsIn m) (lent s) → (o : MachineRecord)
+        → o ≡ recordOf (h .registers) (h .numbers)
+        → leftByRun (h .central) (h .peripheral) (record { machine = o; rounds = made }) ≡ leftAfter (roundsOf n (processorsIn m) (machineOf c m r))
+    run-is n h made t o w =
+        ap (λ (x : MachineRecord). leftByRun (h .central) (h .peripheral) (record { machine = x; rounds = made })) w
+        ∙ ap leftAfter (t ∙ ap (λ (l : List ℕ). roundsOf n (processorsIn m) (lent l)) e)
+
+  -- the answer of a call that is carried out, and of one that is refused
+  module _ (n : ℕ) where
+    pub turn-carried-out : turnVerdict c m r n ≡ Call.Accepted → (o : Left) → o ≡ leftBy (processorTurned (machineOf c m r) n)
+        → turnTo (o .central) (o .peripheral) (record { verdict = Call.Accepted; machine = o .machine }) ≡ turnAnswer c m r n
+    unfolding turnAnswer
+    turn-carried-out v o e = rw v (ap (turnAnswerBy Call.Accepted c m r) e)
+
+    pub turn-refused : (x : Refusal) → turnVerdict c m r n ≡ Call.Refused x
+        → turnTo c m (record { verdict = Call.Refused x; machine = r }) ≡ turnAnswer c m r n
+    unfolding turnAnswer
+    turn-refused x v = rw v
+
+    pub run-carried-out : runVerdict c m r n ≡ Call.Accepted → (o : LeftByRun) → o ≡ leftAfter (roundsOf n (processorsIn m) (machineOf c m r))
+        → runTo (o .central) (o .peripheral) (record { verdict = Call.Accepted; machine = o .end .machine; rounds = o .end .rounds }) ≡ runAnswer c m r n
+    unfolding runAnswer
+    run-carried-out v o e = rw v (ap (runAnswerBy Call.Accepted c m r) e)
+
+    pub run-refused : (x : Refusal) → runVerdict c m r n ≡ Call.Refused x
+        → runTo c m (record { verdict = Call.Refused x; machine = r; rounds = 0 }) ≡ runAnswer c m r n
+    unfolding runAnswer
+    run-refused x v = rw v
+
+  -- what a turn or a run leaves may be lent again
+  module _ (a : machineVerdict true c m r ≡ Call.Accepted) (count : length (r .central .registers) ≡ 24) where
+    pub turn-lent-again : (n : ℕ) → n < processorsIn m
+        → let h = processorTurned (machineOf c m r) n in machineVerdict true (h .central) (h .peripheral) (recordOf (h .registers) (h .numbers)) ≡ Call.Accepted
+    turn-lent-again n l =
+        let few = processors-few c m r a in
+        lent-again (processorsIn m) _ (few .0) (few .1)
+        (processor-keeps (processorsIn m) n (machineOf c m r) l (machine-kept c m r a count) (few .1))
+
+    pub run-lent-again : (n : ℕ)
+        → let h = roundsOf n (processorsIn m) (machineOf c m r) .machine in machineVerdict true (h .central) (h .peripheral) (recordOf (h .registers) (h .numbers)) ≡ Call.Accepted
+    run-lent-again n =
+        let few = processors-few c m r a in
+        lent-again (processorsIn m) _ (few .0) (few .1)
+        (run-keeps (processorsIn m) (few .1) n (machineOf c m r) (machine-kept c m r a count))
