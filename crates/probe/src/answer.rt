@@ -1,6 +1,7 @@
 // Writes the answer of a call: REFUSAL COUNT WORD MARK NC (address word)*NC NP (address word)*NP R0 .. R107 NS (turns stop)*NS
 ghost use Prim.Native.Nat.{_≤_};
 ghost use lib.ListN.{length};
+use super::given::Given;
 use super::line::Numbers;
 use super::line::RECORD;
 use super::line::STINT_COUNT;
@@ -127,13 +128,12 @@ fn end(text: &mut Text, at: usize)
     flush(&*text, start + 1);
 }
 
-// COUNT, WORD and MARK are 0: the calls on the central record have none.
-pub(crate) fn write(refusal: u64, central: &[u64], peripheral: &[u16], numbers: &Numbers) {
+pub(crate) fn write(given: Given, central: &[u64], peripheral: &[u16], numbers: &Numbers) {
     let mut text = [0u8; 4096];
-    let mut at = write_octal(&mut text, 0, refusal);
-    at = put(&mut text, at, 0);
-    at = put(&mut text, at, 0);
-    at = put(&mut text, at, 0);
+    let mut at = write_octal(&mut text, 0, given.refusal);
+    at = put(&mut text, at, given.count);
+    at = put(&mut text, at, given.word);
+    at = put(&mut text, at, given.mark);
     at = put_central(&mut text, at, central);
     at = put_peripheral(&mut text, at, peripheral);
     at = put_record(&mut text, at, numbers);

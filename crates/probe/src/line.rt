@@ -14,7 +14,8 @@ const CENTRAL_COUNT: usize = 3;
 pub(crate) const PERIPHERAL_LENGTH: usize = 4;
 
 const PERIPHERAL_COUNT: usize = 5;
-// The record: of the central processor P, RA, FL, EM, 24 registers and the stop, then 79 numbers of the rest of the machine.
+// The record: of the central processor P, RA, FL, EM, 24 registers and the stop, then the clock, the channels and the peripheral
+// processors.
 pub(crate) const RECORD: usize = 6;
 
 pub(crate) const P: usize = 6;
@@ -28,6 +29,12 @@ pub(crate) const EM: usize = 9;
 pub(crate) const REGISTERS: usize = 10;
 
 pub(crate) const STOP: usize = 34;
+
+pub(crate) const CLOCK: usize = 35;
+// Of each channel the active flag, the full flag, the mark and the word.
+pub(crate) const CHANNELS: usize = 36;
+// Of each peripheral processor P, A and the stop.
+pub(crate) const PROCESSORS: usize = 84;
 
 pub(crate) const JOB_COUNT: usize = 114;
 

@@ -1,7 +1,7 @@
 // The bytes of the input: numbers for the line, and an answer where a line ends.
 use super::answer;
 use super::call;
-use super::call::Outcome;
+use super::given::Outcome;
 use super::line;
 use super::line::CENTRAL_LENGTH;
 use super::line::Next;
@@ -46,10 +46,10 @@ pub(crate) fn is_over(r: Reader) -> bool {
 
 // Makes the call, writes its answer, and leaves the memories zero for the next line.
 fn answer_call(central: &mut [u64], peripheral: &mut [u16], numbers: &mut Numbers) -> Reader {
-    let outcome = call::make(&mut *central, &mut *numbers);
+    let outcome = call::make(&mut *central, &mut *peripheral, &mut *numbers);
     match outcome {
-        Outcome::Answer(refusal) => {
-            answer::write(refusal, &*central, &*peripheral, &*numbers);
+        Outcome::Answer(given) => {
+            answer::write(given, &*central, &*peripheral, &*numbers);
             memory::clear_central(&mut *central);
             memory::clear_peripheral(&mut *peripheral);
             start()

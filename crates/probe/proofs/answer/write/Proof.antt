@@ -13,7 +13,7 @@ write-octal-requires c κs = search needs
 
 put-requires : tie.Need-put-requires
 put-requires c κs =
-    omega (arith, c .before .before .write-octal .ensures .ends, length-octal (c .before .before .before .before .before .before .args .refusal))
+    omega (arith, c .before .before .write-octal .ensures .ends, length-octal (c .before .before .before .before .before .before .args .given .refusal))
 
 put-requires-2 : tie.Need-put-requires-2
 put-requires-2 c κs = search needs

@@ -1,10 +1,10 @@
--- `probe::call::registers` meets its contract. Assumes nothing.
+-- `probe::record::registers` meets its contract. Assumes nothing.
 use mathlib.Core.Path.{_≡_}
 use Prim.Native.Nat.{_≤_, _-_}
 use borrow.Author.Needs.{needs}
 use lib.ListN.{length}
-use Rattle.probe.proofs.call.registers.Statement.{statement}
-use Rattle.probe.proofs.call.registers.Tie as tie
+use Rattle.probe.proofs.record.registers.Statement.{statement}
+use Rattle.probe.proofs.record.registers.Tie as tie
 
 abbrev Inv-loop : tie.InvT-loop
 Inv-loop numbers all₀ i₀ all i = (i ≤ 24) × (length all ≡ 24)

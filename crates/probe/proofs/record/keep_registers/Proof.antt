@@ -1,8 +1,8 @@
--- `probe::call::keep_registers` meets its contract. Assumes nothing.
+-- `probe::record::keep_registers` meets its contract. Assumes nothing.
 use Prim.Native.Nat.{_≤_, _-_}
 use borrow.Author.Needs.{needs}
-use Rattle.probe.proofs.call.keep_registers.Statement.{statement}
-use Rattle.probe.proofs.call.keep_registers.Tie as tie
+use Rattle.probe.proofs.record.keep_registers.Statement.{statement}
+use Rattle.probe.proofs.record.keep_registers.Tie as tie
 
 abbrev Inv-loop : tie.InvT-loop
 Inv-loop numbers₀ registers i₀ numbers i = i ≤ 24

@@ -1,8 +1,8 @@
--- `probe::call::keep_stints` meets its contract. Assumes nothing.
+-- `probe::schedule_call::keep_stints` meets its contract. Assumes nothing.
 use Prim.Native.Nat.{_≤_, _-_}
 use borrow.Author.Needs.{needs}
-use Rattle.probe.proofs.call.keep_stints.Statement.{statement}
-use Rattle.probe.proofs.call.keep_stints.Tie as tie
+use Rattle.probe.proofs.schedule_call.keep_stints.Statement.{statement}
+use Rattle.probe.proofs.schedule_call.keep_stints.Tie as tie
 
 abbrev Inv-loop : tie.InvT-loop
 Inv-loop numbers₀ turns stops i₀ numbers i = i ≤ 256
