@@ -4,6 +4,7 @@ use Prim.Native.Nat.{ℕ, _+_}
 use lib.ListN.{set}
 use Rattle.word.specs.Fields.{part}
 use Rattle.exchange.specs.Jump.{Exchanged, exchanged}
+use Rattle.exchange.specs.declared.record.Central.{Central}
 use Rattle.machine.specs.declared.effect.Effect.{Effect}
 use Rattle.machine.specs.declared.effect.Effect.the-variants.{Advance, Store, ReadCentral, WriteCentral, SetChannel, Exchange, Wait, Stop}
 use Rattle.machine.specs.Numbers.{advanced, stopped, withChannel, centralOf, withCentral}
@@ -14,8 +15,12 @@ unfoldable pub withParts : List ℕ → ℕ → ℕ → List ℕ
 withParts m i w =
     set (set (set (set (set m i (part w 0)) (i + 1) (part w 1)) (i + 2) (part w 2)) (i + 3) (part w 3)) (i + 4) (part w 4)
 
+-- central memory and the central processor's record, put back beside the other numbers s
+abbrev pub putBack : List ℕ → List ℕ → Central → CentralSide
+putBack s memory central = centralSide memory (central .registers) (withCentral s central)
+
 abbrev pub afterExchange : List ℕ → Exchanged → CentralSide
-afterExchange s o = centralSide (o .memory) (o .central .registers) (withCentral s (o .central))
+afterExchange s o = putBack s (o .memory) (o .central)
 
 -- "26 exchanges at A"
 unfoldable pub exchangedAt : List ℕ → List ℕ → List ℕ → ℕ → CentralSide

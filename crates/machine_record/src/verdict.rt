@@ -115,7 +115,7 @@ fn central_length_fits(length: usize) -> bool
 }
 
 // Numbers 1 to 5, lowest first. `there`: the processor whose turn is asked for is there.
-pub fn machine_verdict(c: &[u64], m: &[u16], r: MachineRecord, there: bool) -> Verdict
+pub(crate) fn machine_verdict(c: &[u64], m: &[u16], r: MachineRecord, there: bool) -> Verdict
     ensures { λ v. ⌜ v ≡ machineVerdict there (now (c .entry)) (now (m .entry)) r ⌝ }
 {
     if !central_length_fits(c.len()) {

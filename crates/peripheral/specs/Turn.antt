@@ -1,4 +1,4 @@
--- A turn of a peripheral processor: "One instruction". Assumes nothing.
+-- A turn of a peripheral processor. "Turn" is document 01's word, and here it is "One instruction". Assumes nothing.
 use mathlib.Core.Bool.{cond}
 use mathlib.Core.List.{List, [], _∷_}
 use Prim.Native.Nat.{ℕ, _-_}

@@ -47,7 +47,7 @@ pub fn indexed(m: &[u16], p: u64, d: u64) -> u64
 }
 
 // The 18 bits of d and m.
-pub fn constant(m: &[u16], p: u64, d: u64) -> u64
+pub(crate) fn constant(m: &[u16], p: u64, d: u64) -> u64
     requires { ⌜ Memory (now m) ⌝ }
     requires { ⌜ p < 2 ^ 12 ⌝ }
     requires { ⌜ d < 64 ⌝ }
@@ -57,7 +57,7 @@ pub fn constant(m: &[u16], p: u64, d: u64) -> u64
 }
 
 // The target of 03 to 07: from 40 up d counts back, as a negative number of six bits.
-pub fn jump_target(p: u64, d: u64) -> u64
+pub(crate) fn jump_target(p: u64, d: u64) -> u64
     requires { ⌜ p < 2 ^ 12 ⌝ }
     requires { ⌜ d < 64 ⌝ }
     ensures { λ r. ⌜ r ≡ jumpTarget p d ⌝ }

@@ -7,8 +7,9 @@ use lib.ListN.{set}
 use Rattle.exchange.specs.Indexed.{all}
 use Rattle.exchange.specs.Memory.{part, splice}
 use Rattle.single.specs.Host as Host
-use Rattle.machine.specs.Numbers.{processorOf, centralOf, centralStop, withCentral, clockOf}
-use Rattle.machine.specs.Machine.{Machine, machine, CentralSide, centralSide}
+use Rattle.machine.specs.Numbers.{processorOf, centralOf, centralStop, clockOf}
+use Rattle.machine.specs.Apply.{putBack}
+use Rattle.machine.specs.Machine.{Machine, machine, CentralSide}
 use Rattle.peripheral.specs.Turn.{turnOf}
 
 -- the machine with the 4,096 words of processor n alone
@@ -29,7 +30,7 @@ processorsTurned zero n h = h
 processorsTurned (suc k) n h = processorsTurned k (n + 1) (processorTurned h n)
 
 abbrev pub afterCentralTurn : List ℕ → Host.Machine → CentralSide
-afterCentralTurn s o = centralSide (o .memory) (o .central .registers) (withCentral s (o .central))
+afterCentralTurn s o = putBack s (o .memory) (o .central)
 
 -- "central turn"
 unfoldable pub centralTurnOf : List ℕ → List ℕ → List ℕ → CentralSide

@@ -1,22 +1,16 @@
 // Turns of the peripheral processors, each on its own memory.
 ghost use mathlib.Core.Path.{_≡_};
-ghost use Prim.Native.Nat.{_*_, _<_, _≤_};
+ghost use Prim.Native.Nat.{_+_, _*_, _<_, _≤_};
+ghost use lib.ListN.{length};
 ghost use Rattle.machine.specs.Machine.{machine};
 ghost use Rattle.machine.specs.Widths.{Kept};
 ghost use Rattle.rounds.specs.Rounds.{processorTurned, processorsTurned};
 use peripheral::turn::turn;
 
-// Processor n of k: its own 4,096 words alone are lent to its turn.
-pub fn processor_turn(
-    m: &mut [u16],
-    c: &mut [u64],
-    x: &mut [u64; 24],
-    s: &mut [u64; 84],
-    k: usize,
-    n: usize,
-)
-    requires { ⌜ Kept (k * 4096) (machine (now m) (now c) (now x) (now s)) ⌝ }
-    requires { ⌜ (n < k) × (k ≤ 10) ⌝ }
+// Processor n: its own 4,096 words alone are lent to its turn.
+pub fn processor_turn(m: &mut [u16], c: &mut [u64], x: &mut [u64; 24], s: &mut [u64; 84], n: usize)
+    requires { ⌜ Kept (length (now m)) (machine (now m) (now c) (now x) (now s)) ⌝ }
+    requires { ⌜ (n * 4096 + 4096 ≤ length (now m)) × (n < 10) ⌝ }
     ensures { λ o. ⌜ machine (now (m .exit)) (now (c .exit)) (now (x .exit)) (now (s .exit))
         ≡ processorTurned (machine (now (m .entry)) (now (c .entry)) (now (x .entry)) (now (s .entry))) n ⌝ }
 {
@@ -40,7 +34,7 @@ pub(crate) fn processors_turn(
 {
     let mut left = k;
     while 0 < left {
-        processor_turn(&mut *m, &mut *c, &mut *x, &mut *s, k, k - left);
+        processor_turn(&mut *m, &mut *c, &mut *x, &mut *s, k - left);
         left = left - 1;
     }
 }

@@ -38,11 +38,10 @@ fn turn(c: &mut [u64], m: &mut [u16], r: MachineRecord, n: u64) -> MachineRecord
     requires { ⌜ turnVerdict (now c) (now m) r n ≡ Call.Accepted ⌝ }
     ensures { λ o. ⌜ left (now (c .exit)) (now (m .exit)) o ≡ leftBy (processorTurned (machineOf (now (c .entry)) (now (m .entry)) r) n) ⌝ }
 {
-    let k = m.len() / 4096;
     let central = r.central;
     let mut x = central.registers;
     let mut s = numbers_of(r);
-    processor_turn(&mut *m, &mut *c, &mut x, &mut s, k, n as usize);
+    processor_turn(&mut *m, &mut *c, &mut x, &mut s, n as usize);
     record_of(&x, &s)
 }
 

@@ -20,31 +20,31 @@ use Rattle.peripheral.specs.Laws.Frame.{turn-other-processor}
 use Rattle.rounds.specs.Rounds.{lentTo, processorTurned, processorsTurned, centralTurnOf, ticked, roundOf, allStopped, Run, roundsOf}
 use Rattle.rounds.specs.Laws.Processors.{room, lent-kept}
 
-module _ (k n : ℕ) (h : Machine) (l : n < k) (few : k ≤ 10) (kept : Kept (k * 4096) h) where
+module _ (size n : ℕ) (h : Machine) (l : n * 4096 + 4096 ≤ size) (few : n < 10) (kept : Kept size h) where
   abbrev left : List ℕ
   left = turnOf (lentTo h n) n .peripheral
 
   long : length left ≡ 4096
-  long = turn-keeps (lentTo h n) n (omega arith) (lent-kept k n h l kept) .size
+  long = turn-keeps (lentTo h n) n few (lent-kept size n h l kept) .size
 
   -- its own words are what its turn left
   pub own-memory : part (processorTurned h n .peripheral) (n * 4096) 4096 ≡ left
   unfolding processorTurned
-  own-memory = part-splice (h .peripheral) (n * 4096) 4096 left (room k n h l kept) long
+  own-memory = part-splice (h .peripheral) (n * 4096) 4096 left (room size n h l kept) long
 
   -- those of processor j stay
   pub other-memory : (j : ℕ) → (j ≡ n → ⊥) → part (processorTurned h n .peripheral) (j * 4096) 4096 ≡ part (h .peripheral) (j * 4096) 4096
   unfolding processorTurned
   other-memory j d =
-      part-same _ (h .peripheral) (j * 4096) 4096 (length-splice (h .peripheral) (n * 4096) 4096 left (room k n h l kept) long)
+      part-same _ (h .peripheral) (j * 4096) 4096 (length-splice (h .peripheral) (n * 4096) 4096 left (room size n h l kept) long)
       (λ i from to. ⊎-elim
-      (λ g. word-above (h .peripheral) (n * 4096) 4096 left (room k n h l kept) long i (omega arith))
-      (λ g. word-below (h .peripheral) (n * 4096) 4096 left (room k n h l kept) long i (omega arith))
+      (λ g. word-above (h .peripheral) (n * 4096) 4096 left (room size n h l kept) long i (omega arith))
+      (λ g. word-below (h .peripheral) (n * 4096) 4096 left (room size n h l kept) long i (omega arith))
       (le-or-lt n j))
 
   pub other-record : (j : ℕ) → j < 10 → (j ≡ n → ⊥) → processorOf (processorTurned h n .numbers) j ≡ processorOf (h .numbers) j
   unfolding processorTurned
-  other-record j m d = turn-other-processor (lentTo h n) n j (omega arith) m d
+  other-record j m d = turn-other-processor (lentTo h n) n j few m d
 
 -- the records of processors that are not there stay through turns, rounds and runs
 module _ (k j : ℕ) (few : k ≤ 10) (absent : k ≤ j) (below : j < 10) where

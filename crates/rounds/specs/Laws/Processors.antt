@@ -14,9 +14,9 @@ use Rattle.rounds.specs.Rounds.{lentTo, returned, processorTurned, proce
 pub lent-words : (n : ℕ) → n * 4096 + 4096 - n * 4096 ≡ 4096
 lent-words n = omega arith
 
-module _ (k n : ℕ) (h : Machine) (l : n < k) (kept : Kept (k * 4096) h) where
+module _ (size n : ℕ) (h : Machine) (l : n * 4096 + 4096 ≤ size) (kept : Kept size h) where
   pub room : n * 4096 + 4096 ≤ length (h .peripheral)
-  room = omega (arith, kept .size)
+  room = omega (arith, kept .size, l)
 
   pub lent-kept : Kept 4096 (lentTo h n)
   lent-kept =
@@ -29,7 +29,7 @@ module _ (k n : ℕ) (h : Machine) (l : n < k) (kept : Kept (k * 4096) h) where
         wide = kept .wide;
       }
 
-  returned-kept : (o : Machine) → Kept 4096 o → Kept (k * 4096) (returned h n o)
+  returned-kept : (o : Machine) → Kept 4096 o → Kept size (returned h n o)
   returned-kept o t =
       record {
         size = length-splice (h .peripheral) (n * 4096) 4096 (o .peripheral) room (t .size) ∙ kept .size;
@@ -41,13 +41,18 @@ module _ (k n : ℕ) (h : Machine) (l : n < k) (kept : Kept (k * 4096) h) where
       }
 
   -- widths and lengths are kept
-  pub processor-keeps : k ≤ 10 → Kept (k * 4096) (processorTurned h n)
+  pub processor-keeps : n < 10 → Kept size (processorTurned h n)
   unfolding processorTurned
-  processor-keeps m = returned-kept (turnOf (lentTo h n) n) (turn-keeps (lentTo h n) n (omega arith) lent-kept)
+  processor-keeps m = returned-kept (turnOf (lentTo h n) n) (turn-keeps (lentTo h n) n m lent-kept)
 
-  pub processor-length : k ≤ 10 → length (processorTurned h n .central) ≡ length (h .central)
+  pub processor-length : n < 10 → length (processorTurned h n .central) ≡ length (h .central)
   unfolding processorTurned
-  processor-length m = turn-length (lentTo h n) n (omega arith) lent-kept
+  processor-length m = turn-length (lentTo h n) n m lent-kept
+
+-- a machine with as many words as it has
+pub own-size : (n : ℕ) (h : Machine) → Kept n h → Kept (length (h .peripheral)) h
+own-size n h kept =
+    record { size = refl; short = kept .short; host = kept .host; count = kept .count; places = kept .places; wide = kept .wide }
 
 -- the turn on the words lent, and these put back
 pub processor-is : (h : Machine) (n : ℕ) (o : Machine) → o ≡ turnOf (lentTo h n) n → returned h n o ≡ processorTurned h n
@@ -59,14 +64,14 @@ module _ (k : ℕ) (few : k ≤ 10) where
   unfolding processorsTurned
   processors-keep zero n t h kept = kept
   processors-keep (suc j) n t h kept =
-      processors-keep j (n + 1) (omega arith) (processorTurned h n) (processor-keeps k n h (omega arith) kept few)
+      processors-keep j (n + 1) (omega arith) (processorTurned h n) (processor-keeps (k * 4096) n h (omega arith) kept (omega arith))
 
   pub processors-length : (j n : ℕ) → n + j ≡ k → (h : Machine) → Kept (k * 4096) h → length (processorsTurned j n h .central) ≡ length (h .central)
   unfolding processorsTurned
   processors-length zero n t h kept = refl
   processors-length (suc j) n t h kept =
-      processors-length j (n + 1) (omega arith) (processorTurned h n) (processor-keeps k n h (omega arith) kept few)
-      ∙ processor-length k n h (omega arith) kept few
+      processors-length j (n + 1) (omega arith) (processorTurned h n) (processor-keeps (k * 4096) n h (omega arith) kept (omega arith))
+      ∙ processor-length (k * 4096) n h (omega arith) kept (omega arith)
 
 -- the state of the loop: the last processors, as many as are left, give what all of them give
 pub record Going (k : ℕ) (h₀ h : Machine) (left : ℕ) : Type 0 where
@@ -101,8 +106,8 @@ module _ (k : ℕ) (h₀ h : Machine) (left : ℕ) (g : Going k h₀ h left) whe
     going-on =
         let m = g .most in
         record {
-          kept = subst (Kept (k * 4096)) (sym e) (processor-keeps k (k - left) h (omega arith) (g .kept) few);
-          long = ap (λ (x : Machine). length (x .central)) e ∙ processor-length k (k - left) h (omega arith) (g .kept) few ∙ g .long;
+          kept = subst (Kept (k * 4096)) (sym e) (processor-keeps (k * 4096) (k - left) h (omega arith) (g .kept) (omega arith));
+          long = ap (λ (x : Machine). length (x .central)) e ∙ processor-length (k * 4096) (k - left) h (omega arith) (g .kept) (omega arith) ∙ g .long;
           most = omega arith;
           is = ap (processorsTurned (left - 1) (k - (left - 1))) e ∙ sym (next (left - 1) (omega arith)) ∙ g .is;
         }

@@ -2,7 +2,8 @@
 use mathlib.Core.Bool.{true}
 use mathlib.Core.List.{List}
 use mathlib.Core.Path.{_≡_, sym, ap, subst, _∙_}
-use Prim.Native.Nat.{ℕ, _*_, _≤_, _<_}
+use Prim.Native.Nat.{ℕ, _+_, _*_, _≤_, _<_}
+use native.Mathlib.Omega.{arith}
 use lib.ListN.{length}
 use Rattle.outcome.specs.declared.refusal.Refusal.{Refusal}
 use Rattle.outcome.specs.declared.refusal.Verdict.the-variants as Call
@@ -13,7 +14,7 @@ use Rattle.machine_record.specs.Verdict.{processorsIn, machineVerdict, turnVerd
 use Rattle.machine_record.specs.Laws.Verdict.{turn-accepted, run-accepted, processors-few, machine-kept, lent-again}
 use Rattle.machine_record.specs.declared.record.MachineRecord.{MachineRecord}
 use Rattle.rounds.specs.Rounds.{processorTurned, ran, roundsOf}
-use Rattle.rounds.specs.Laws.Processors.{processor-keeps}
+use Rattle.rounds.specs.Laws.Processors.{processor-keeps, own-size}
 use Rattle.rounds.specs.Laws.Rounds.{run-keeps}
 use Rattle.whole.specs.Call.{Left, left, leftBy, LeftByRun, leftByRun, leftAfter, turnTo, turnAnswerBy, turnAnswer, runTo, runAnswerBy, runAnswer}
 
@@ -27,8 +28,13 @@ module _ (c m : List ℕ) (r : MachineRecord) where
     ready a count = subst (λ (t : List ℕ). Kept (processorsIn m * 4096) (lent t)) (sym e) (machine-kept c m r a count)
 
     pub turn-ready : (n : ℕ) → turnVerdict c m r n ≡ Call.Accepted → length (r .central .registers) ≡ 24
-        → Kept (processorsIn m * 4096) (lent s) × ((n < processorsIn m) × (processorsIn m ≤ 10))
-    turn-ready n v count = let a = turn-accepted c m r n v in (ready (a .1) count, (a .0, processors-few c m r (a .1) .1))
+        → Kept (length m) (lent s) × ((n * 4096 + 4096 ≤ length m) × (n < 10))
+    turn-ready n v count =
+        let a = turn-accepted c m r n v in
+        let kept = ready (a .1) count in (
+          own-size (processorsIn m * 4096) (lent s) kept,
+          (omega (arith, a .0, kept .size), omega (arith, a .0, processors-few c m r (a .1) .1)),
+        )
 
     pub turn-is : (n : ℕ) (h : Machine) → h ≡ processorTurned (lent s) n → (o : MachineRecord) → o ≡ recordOf (h .registers) (h .numbers)
         → left (h .central) (h .peripheral) o ≡ leftBy (processorTurned (machineOf c m r) n)
@@ -76,7 +82,7 @@ module _ (c m : List ℕ) (r : MachineRecord) where
     turn-lent-again n l =
         let few = processors-few c m r a in
         lent-again (processorsIn m) _ (few .0) (few .1)
-        (processor-keeps (processorsIn m) n (machineOf c m r) l (machine-kept c m r a count) (few .1))
+        (processor-keeps (processorsIn m * 4096) n (machineOf c m r) (omega arith) (machine-kept c m r a count) (omega (arith, few .1)))
 
     pub run-lent-again : (n : ℕ)
         → let h = roundsOf n (processorsIn m) (machineOf c m r) .machine in machineVerdict true (h .central) (h .peripheral) (recordOf (h .registers) (h .numbers)) ≡ Call.Accepted

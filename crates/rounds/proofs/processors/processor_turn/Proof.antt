@@ -1,5 +1,4 @@
 -- `rounds::processors::processor_turn` meets its contract. Assumes nothing.
-use native.Mathlib.Omega.{arith}
 use Rattle.machine.specs.Machine.{machine}
 use Rattle.rounds.specs.Laws.Processors.{lent-words, lent-kept, processor-is}
 use borrow.Author.Needs.{needs}
@@ -28,7 +27,7 @@ turn-requires : tie.Need-turn-requires
 turn-requires c κs =
     let args = c .before .before .before .before .before .before .args in
     let pre = c .before .before .before .before .before .before .pre in
-    rw (lent-words (args .n)) (lent-kept _ _ (machine _ _ _ _) (pre .1 .0) (pre .0), omega (arith, pre .1))
+    rw (lent-words (args .n)) (lent-kept _ _ (machine _ _ _ _) (pre .1 .0) (pre .0), pre .1 .1)
 
 same-length : tie.Need-same-length
 same-length c = search needs

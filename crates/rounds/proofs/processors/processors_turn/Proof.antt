@@ -2,7 +2,7 @@
 use mathlib.Core.Path.{sym, _∙_}
 use native.Mathlib.Omega.{arith}
 use Rattle.machine.specs.Machine.{machine}
-use Rattle.rounds.specs.Laws.Processors.{Going, going-start, going-on, going-end}
+use Rattle.rounds.specs.Laws.Processors.{own-size, Going, going-start, going-on, going-end}
 use Rattle.rounds.proofs.processors.processors_turn.Statement.{statement}
 use Rattle.rounds.proofs.processors.processors_turn.Tie as tie
 
@@ -22,8 +22,13 @@ processor-turn-requires : tie.Need-processor-turn-requires Inv-loop μ-loop
 processor-turn-requires c κs =
     let pre = c .before .before .before .before .before .before .before .before .pre in
     let loop = c .before .before .before .before .before .loop in
-    let loop-test = c .before .before .before .before .loop-test in
-    (loop .inv .kept, (omega (arith, loop-test .taken, loop .inv .most), pre .1))
+    let loop-test = c .before .before .before .before .loop-test in (
+      own-size _ (machine _ _ _ _) (loop .inv .kept),
+      (
+        omega (arith, loop-test .taken, loop .inv .most, loop .inv .kept .size),
+        omega (arith, loop-test .taken, loop .inv .most, pre .1),
+      ),
+    )
 
 sub-left : tie.Need-sub-left Inv-loop μ-loop
 sub-left c = omega (arith, c .before .before .before .before .before .before .before .before .before .loop-test .taken)
