@@ -3,7 +3,7 @@ use outcome::refusal::Refusal;
 use outcome::refusal::Verdict;
 ghost use mathlib.Core.Path.{_≡_};
 ghost use Prim.Native.Nat.{_^_};
-ghost use Rattle.exchange.specs.Record.{emFits, registerWidth, registersFit, recordFits, wordsFit, hostVerdict};
+ghost use Rattle.exchange.specs.Record.{emFits, registerWidth, registersFit, recordFits, lengthFits, wordsFit, hostVerdict};
 
 // The central processor's record.
 pub struct Central {
@@ -92,22 +92,28 @@ pub fn words_fit(m: &[u64]) -> bool
     true
 }
 
+// Number 1: central memory has 1 to 131,072 words.
+pub fn length_fits(length: usize) -> bool
+    ensures { λ r. ⌜ r ≡ lengthFits length ⌝ }
+{
+    if length == 0 {
+        return false;
+    }
+    length <= 131072
+}
+
 // Numbers 1, 3 and 5 on a lent memory and record, lowest first.
 pub fn host_verdict(m: &[u64], c: Central) -> Verdict
     ensures { λ r. ⌜ r ≡ hostVerdict (now (m .entry)) c ⌝ }
 {
-    let length = m.len();
-    if length == 0 {
+    if !length_fits(m.len()) {
         return Verdict::Refused(Refusal::CentralLength);
     }
-    if 131072 < length {
-        return Verdict::Refused(Refusal::CentralLength);
+    if !words_fit(m) {
+        return Verdict::Refused(Refusal::CentralWord);
     }
-    if words_fit(m) {
-        if record_fits(c, length as u64) {
-            return Verdict::Accepted;
-        }
+    if !record_fits(c, m.len() as u64) {
         return Verdict::Refused(Refusal::RecordValue);
     }
-    Verdict::Refused(Refusal::CentralWord)
+    Verdict::Accepted
 }

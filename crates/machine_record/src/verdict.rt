@@ -1,10 +1,10 @@
 // The tests of what the host lends for a peripheral turn or a run: numbers 1 to 5, and 8.
 ghost use mathlib.Core.Path.{_≡_};
-ghost use Rattle.exchange.specs.Record.{lengthFits};
 ghost use Rattle.machine_record.specs.Record.{processorFits, processorsFit, channelsFit, machineFits};
 ghost use Rattle.machine_record.specs.Verdict.{peripheralLengthFits, shortWordsFit, machineVerdict, turnVerdict, runVerdict};
 use super::record::MachineRecord;
 use channel::record::Channel;
+use exchange::record::length_fits;
 use exchange::record::record_fits;
 use exchange::record::words_fit;
 use machine::numbers::Processor;
@@ -104,21 +104,11 @@ fn short_words_fit(m: &[u16]) -> bool
     true
 }
 
-// Number 1: central memory has 1 to 131,072 words.
-fn central_length_fits(length: usize) -> bool
-    ensures { λ r. ⌜ r ≡ lengthFits length ⌝ }
-{
-    if length == 0 {
-        return false;
-    }
-    length <= 131072
-}
-
 // Numbers 1 to 5, lowest first. `there`: the processor whose turn is asked for is there.
 pub(crate) fn machine_verdict(c: &[u64], m: &[u16], r: MachineRecord, there: bool) -> Verdict
     ensures { λ v. ⌜ v ≡ machineVerdict there (now (c .entry)) (now (m .entry)) r ⌝ }
 {
-    if !central_length_fits(c.len()) {
+    if !length_fits(c.len()) {
         return Verdict::Refused(Refusal::CentralLength);
     }
     if !peripheral_length_fits(m.len()) {

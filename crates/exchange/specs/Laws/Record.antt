@@ -1,5 +1,5 @@
 -- What the tests of a record and of a memory say of each value. Assumes nothing.
-use mathlib.Core.Bool.{true, _&&_}
+use mathlib.Core.Bool.{Bool, true, _&&_}
 use mathlib.Core.List.{List}
 use mathlib.Core.Logic.{⊎-elim}
 use mathlib.Core.Path.{_≡_, subst}
@@ -12,7 +12,8 @@ use Rattle.word.specs.Bits.{bits}
 use Rattle.word.specs.Laws.Choice.{le-or-lt}
 use Rattle.instruction.specs.Registers.{aOf, bOf, xOf}
 use Rattle.exchange.specs.declared.record.Central.{Central}
-use Rattle.exchange.specs.Record.{emFits, registerWidth, registerFits, registersFit, recordFits, FitsPackage, wordFits, wordsFit}
+use Rattle.exchange.specs.Indexed.{all}
+use Rattle.exchange.specs.Record.{emFits, registerWidth, registerFits, registersFit, recordFits, FitsPackage, wordsFit}
 use Rattle.word.specs.Laws.Tests.{both}
 use Rattle.exchange.specs.Laws.Indexed.{all-at, all-of}
 
@@ -92,15 +93,25 @@ of-fits n c f =
     )
     (all-of (registerFits (c .registers)) 24 (λ i l. lt-ltb (getD (c .registers) i 0) (2 ^ registerWidth i) (w .register-width i l)))
 
--- every word, and 0 past the end
+-- a test of every word for a bound B; then the bound holds of every word, and of 0 past the end
+abbrev pub below : ℕ → List ℕ → ℕ → Bool
+below B m i = ltb (getD m i 0) B
+
+module _ (B : ℕ) (m : List ℕ) where
+  pub all-below : 0 < B → all (length m) (below B m) ≡ true → (i : ℕ) → getD m i 0 < B
+  all-below z h i =
+      ⊎-elim
+      (λ l. rw (List·getD-eq-default m 0 {n = i} l) z)
+      (λ l. ltb-true (getD m i 0) B (all-at (below B m) (length m) h i l))
+      (le-or-lt (length m) i)
+
+  pub of-all-below : ((i : ℕ) → getD m i 0 < B) → all (length m) (below B m) ≡ true
+  of-all-below h = all-of (below B m) (length m) (λ i l. lt-ltb (getD m i 0) B (h i))
+
 pub word-width : (m : List ℕ) → wordsFit m ≡ true → (i : ℕ) → getD m i 0 < 2 ^ 60
 unfolding wordsFit
-word-width m h i =
-    ⊎-elim
-    (λ l. rw (List·getD-eq-default m 0 l) (lit< tt))
-    (λ l. ltb-true (getD m i 0) (2 ^ 60) (all-at (wordFits m) (length m) h i l))
-    (le-or-lt (length m) i)
+word-width m h = all-below (2 ^ 60) m (lit< tt) h
 
 pub of-word-width : (m : List ℕ) → ((i : ℕ) → getD m i 0 < 2 ^ 60) → wordsFit m ≡ true
 unfolding wordsFit
-of-word-width m h = all-of (wordFits m) (length m) (λ i l. lt-ltb (getD m i 0) (2 ^ 60) (h i))
+of-word-width m h = of-all-below (2 ^ 60) m h

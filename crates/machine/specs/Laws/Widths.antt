@@ -134,25 +134,21 @@ clock-ticks s w =
 
 -- numbers of the peripheral processors, of the channels and of the clock are none of the central processor's
 module _ (x s : List ℕ) where
-  pub central-kept-below : (i v : ℕ) → i < 78 → centralOf x (set s i v) ≡ centralOf x s
-  central-kept-below i v h =
+  central-kept : (i v : ℕ) → ((j : ℕ) → 78 ≤ j → j < 83 → j ≡ i → ⊥) → centralOf x (set s i v) ≡ centralOf x s
+  central-kept i v apart =
       rw (
-        getD-set-other s i 78 v 0 (λ e. omega arith),
-        getD-set-other s i 79 v 0 (λ e. omega arith),
-        getD-set-other s i 80 v 0 (λ e. omega arith),
-        getD-set-other s i 81 v 0 (λ e. omega arith),
-        getD-set-other s i 82 v 0 (λ e. omega arith),
+        getD-set-other s i 78 v 0 (apart 78 (omega arith) (omega arith)),
+        getD-set-other s i 79 v 0 (apart 79 (omega arith) (omega arith)),
+        getD-set-other s i 80 v 0 (apart 80 (omega arith) (omega arith)),
+        getD-set-other s i 81 v 0 (apart 81 (omega arith) (omega arith)),
+        getD-set-other s i 82 v 0 (apart 82 (omega arith) (omega arith)),
       )
 
+  pub central-kept-below : (i v : ℕ) → i < 78 → centralOf x (set s i v) ≡ centralOf x s
+  central-kept-below i v h = central-kept i v (λ j l u e. omega arith)
+
   pub central-kept-clock : (v : ℕ) → centralOf x (set s 83 v) ≡ centralOf x s
-  central-kept-clock v =
-      rw (
-        getD-set-other s 83 78 v 0 (λ e. omega arith),
-        getD-set-other s 83 79 v 0 (λ e. omega arith),
-        getD-set-other s 83 80 v 0 (λ e. omega arith),
-        getD-set-other s 83 81 v 0 (λ e. omega arith),
-        getD-set-other s 83 82 v 0 (λ e. omega arith),
-      )
+  central-kept-clock v = central-kept 83 v (λ j l u e. omega arith)
 
 pub central-kept-advanced : (x s : List ℕ) (n p a : ℕ) → n < 10 → centralOf x (advanced s n p a) ≡ centralOf x s
 central-kept-advanced x s n p a h =

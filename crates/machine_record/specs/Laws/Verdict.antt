@@ -1,21 +1,20 @@
 -- What an accepted call lends is a machine that turns may work on, and what they hand back may be lent again. Assumes nothing.
 use mathlib.Core.Bool.{Bool, true, _&&_}
 use mathlib.Core.List.{List}
-use mathlib.Core.Logic.{⊎-elim}
 use mathlib.Core.Path.{_≡_, sym, ap, subst, _∙_}
 use Prim.Native.Nat.{ℕ, _+_, _*_, _%_, _^_, _≤_, _<_}
 use native.Mathlib.Omega.{arith}
 use borrow.Author.Tests.{ltb-true, ltb-false, leb-true, eqb-true, lt-ltb, le-leb, eq-eqb}
 use lib.Dec.{ltb, leb, eqb, lit<}
-use lib.ListN.{length, getD, List·getD-eq-default}
-use Rattle.word.specs.Laws.Choice.{le-or-lt}
+use lib.ListN.{length, getD}
 use Rattle.word.specs.Laws.Tests.{both}
 use Rattle.outcome.specs.declared.refusal.Refusal.the-variants as Because
 use Rattle.outcome.specs.declared.refusal.Verdict.the-variants as Call
 use Rattle.channel.specs.Codes.{disconnected}
 use Rattle.channel.specs.declared.record.Channel.{Channel}
 use Rattle.exchange.specs.Record.{wordsFit}
-use Rattle.exchange.specs.Laws.Indexed.{all-at, all-of}
+use Rattle.exchange.specs.Laws.Indexed.{all-of}
+use Rattle.exchange.specs.Laws.Record.{all-below, of-all-below}
 use Rattle.exchange.specs.Laws.Verdicts.{by-test, by-fault, HostAccepted}
 use Rattle.single.specs.Laws.Host.{both-accept}
 use Rattle.machine.specs.Machine.{Machine}
@@ -25,7 +24,7 @@ use Rattle.machine.specs.Laws.Widths.{processor-short, stop-listed, channel-fit
 use Rattle.machine.specs.declared.numbers.Processor.{Processor}
 use Rattle.machine_record.specs.declared.record.MachineRecord.{MachineRecord}
 use Rattle.machine_record.specs.Record.{idle, processorFits, processorFitsAt, processorsFit, channelFitsAt, channelsFit, machineFits}
-use Rattle.machine_record.specs.Verdict.{peripheralLengthFits, processorsIn, shortWordFits, shortWordsFit, machineVerdict, turnVerdict, roundsVerdict, runVerdict}
+use Rattle.machine_record.specs.Verdict.{peripheralLengthFits, processorsIn, shortWordsFit, machineVerdict, turnVerdict, roundsVerdict, runVerdict}
 use Rattle.machine_record.specs.Numbers.{processorsOf, channelsOf, recordOf, machineOf}
 use Rattle.machine_record.specs.Laws.Entries.{entries-read}
 use Rattle.machine_record.specs.Laws.Record.{machine-fits, of-processor-fits}
@@ -34,18 +33,11 @@ use Rattle.machine_record.specs.Laws.Numbers.{count-numbers, central-aga
 -- every word, and 0 past the end
 pub short-words : (m : List ℕ) → shortWordsFit m ≡ true → ShortWords m
 unfolding shortWordsFit
-short-words m h =
-    record {
-      word =
-          λ i. ⊎-elim
-          (λ l. rw (List·getD-eq-default m 0 l) (lit< tt))
-          (λ l. ltb-true (getD m i 0) (2 ^ 12) (all-at (shortWordFits m) (length m) h i l))
-          (le-or-lt (length m) i);
-    }
+short-words m h = record { word = all-below (2 ^ 12) m (lit< tt) h }
 
 pub of-short-words : (m : List ℕ) → ShortWords m → shortWordsFit m ≡ true
 unfolding shortWordsFit
-of-short-words m w = all-of (shortWordFits m) (length m) (λ i l. lt-ltb (getD m i 0) (2 ^ 12) (w .word i))
+of-short-words m w = of-all-below (2 ^ 12) m (w .word)
 
 -- the words of 1 to 10 processors
 pub record FitsLength (n : ℕ) : Type 0 where

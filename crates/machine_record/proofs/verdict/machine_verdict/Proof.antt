@@ -6,12 +6,12 @@ use Rattle.machine_record.specs.Verdict.{machineVerdict}
 use Rattle.machine_record.proofs.verdict.machine_verdict.Statement.{statement}
 use Rattle.machine_record.proofs.verdict.machine_verdict.Tie as tie
 
-central-length-fits-requires : tie.Need-central-length-fits-requires
-central-length-fits-requires c κs = search needs
+length-fits-requires : tie.Need-length-fits-requires
+length-fits-requires c κs = search needs
 
 returns : tie.Need-returns
 unfolding machineVerdict
-returns c = rw (fails (c .before .central-length-fits .ensures) (c .if1 .taken))
+returns c = rw (fails (c .before .length-fits .ensures) (c .if1 .taken))
 
 peripheral-length-fits-requires : tie.Need-peripheral-length-fits-requires
 peripheral-length-fits-requires c κs = search needs
@@ -20,7 +20,7 @@ returns-2 : tie.Need-returns-2
 unfolding machineVerdict
 returns-2 c =
     rw (
-      holds (c .before .before .before .central-length-fits .ensures) (c .before .before .if1 .left),
+      holds (c .before .before .before .length-fits .ensures) (c .before .before .if1 .left),
       fails (c .before .peripheral-length-fits .ensures) (c .if2 .taken),
     )
 
@@ -28,7 +28,7 @@ returns-3 : tie.Need-returns-3
 unfolding machineVerdict
 returns-3 c =
     rw (
-      holds (c .before .before .before .before .central-length-fits .ensures) (c .before .before .before .if1 .left),
+      holds (c .before .before .before .before .length-fits .ensures) (c .before .before .before .if1 .left),
       holds (c .before .before .peripheral-length-fits .ensures) (c .before .if2 .left),
       not-true (c .before .before .before .before .before .before .before .args .there) (c .if3 .taken),
     )
@@ -40,7 +40,7 @@ returns-4 : tie.Need-returns-4
 unfolding machineVerdict
 returns-4 c =
     rw (
-      holds (c .before .before .before .before .before .before .central-length-fits .ensures) (c .before .before .before .before .before .if1 .left),
+      holds (c .before .before .before .before .before .before .length-fits .ensures) (c .before .before .before .before .before .if1 .left),
       holds (c .before .before .before .before .peripheral-length-fits .ensures) (c .before .before .before .if2 .left),
       not-false (c .before .before .before .before .before .before .before .before .before .args .there) (c .before .before .if3 .left),
       fails (c .before .words-fit .ensures) (c .if4 .taken),
@@ -53,7 +53,7 @@ returns-5 : tie.Need-returns-5
 unfolding machineVerdict
 returns-5 c =
     rw (
-      holds (c .before .before .before .before .before .before .before .before .central-length-fits .ensures) (c .before .before .before .before .before .before .before .if1 .left),
+      holds (c .before .before .before .before .before .before .before .before .length-fits .ensures) (c .before .before .before .before .before .before .before .if1 .left),
       holds (c .before .before .before .before .before .before .peripheral-length-fits .ensures) (c .before .before .before .before .before .if2 .left),
       not-false (c .before .before .before .before .before .before .before .before .before .before .before .args .there) (c .before .before .before .before .if3 .left),
       holds (c .before .before .before .words-fit .ensures) (c .before .before .if4 .left),
@@ -67,7 +67,7 @@ returns-6 : tie.Need-returns-6
 unfolding machineVerdict
 returns-6 c =
     rw (
-      holds (c .before .before .before .before .before .before .before .before .before .before .central-length-fits .ensures) (c .before .before .before .before .before .before .before .before .before .if1 .left),
+      holds (c .before .before .before .before .before .before .before .before .before .before .length-fits .ensures) (c .before .before .before .before .before .before .before .before .before .if1 .left),
       holds (c .before .before .before .before .before .before .before .before .peripheral-length-fits .ensures) (c .before .before .before .before .before .before .before .if2 .left),
       not-false (c .before .before .before .before .before .before .before .before .before .before .before .before .before .args .there) (c .before .before .before .before .before .before .if3 .left),
       holds (c .before .before .before .before .before .words-fit .ensures) (c .before .before .before .before .if4 .left),
@@ -79,7 +79,7 @@ returns-7 : tie.Need-returns-7
 unfolding machineVerdict
 returns-7 c =
     rw (
-      holds (c .before .before .before .before .before .before .before .before .before .before .central-length-fits .ensures) (c .before .before .before .before .before .before .before .before .before .if1 .left),
+      holds (c .before .before .before .before .before .before .before .before .before .before .length-fits .ensures) (c .before .before .before .before .before .before .before .before .before .if1 .left),
       holds (c .before .before .before .before .before .before .before .before .peripheral-length-fits .ensures) (c .before .before .before .before .before .before .before .if2 .left),
       not-false (c .before .before .before .before .before .before .before .before .before .before .before .before .before .args .there) (c .before .before .before .before .before .before .if3 .left),
       holds (c .before .before .before .before .before .words-fit .ensures) (c .before .before .before .before .if4 .left),
@@ -91,7 +91,7 @@ pub machine-verdict-spec : {M : Type 1} → statement M
 machine-verdict-spec =
     tie.close
     (tie.spec
-    central-length-fits-requires
+    length-fits-requires
     returns
     peripheral-length-fits-requires
     returns-2
