@@ -105,7 +105,7 @@ fn short_words_fit(m: &[u16]) -> bool
 }
 
 // Numbers 1 to 5, lowest first. `there`: the processor whose turn is asked for is there.
-pub(crate) fn machine_verdict(c: &[u64], m: &[u16], r: MachineRecord, there: bool) -> Verdict
+pub fn machine_verdict(c: &[u64], m: &[u16], r: MachineRecord, there: bool) -> Verdict
     ensures { λ v. ⌜ v ≡ machineVerdict there (now (c .entry)) (now (m .entry)) r ⌝ }
 {
     if !length_fits(c.len()) {

@@ -6,7 +6,6 @@ use super::line::CALL;
 use super::line::Numbers;
 use super::line::STINT_COUNT;
 use super::machine_call;
-use super::record;
 use super::schedule_call;
 
 // The calls that give no stints.
@@ -24,9 +23,6 @@ fn make_other(central: &mut [u64], peripheral: &mut [u16], numbers: &mut Numbers
 }
 
 pub(crate) fn make(central: &mut [u64], peripheral: &mut [u16], numbers: &mut Numbers) -> Outcome {
-    if !record::has_flags(&*numbers) {
-        return Outcome::Unreadable;
-    }
     if numbers[CALL] == 3 {
         return schedule_call::answer(&mut *central, &mut *numbers);
     }

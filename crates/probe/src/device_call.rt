@@ -1,67 +1,43 @@
 // The device calls, on the channel that is the one job of the line.
-ghost use Prim.Native.Nat.{_<_};
+ghost use mathlib.Core.Path.{_≡_};
+ghost use Prim.Native.Nat.{_≤_};
+ghost use lib.ListN.{length};
 use super::given;
-use super::given::Given;
 use super::given::Outcome;
-use super::lent;
 use super::line::ARGUMENT;
 use super::line::CALL;
+use super::line::CHANNELS;
 use super::line::JOB_COUNT;
 use super::line::JOBS;
 use super::line::Numbers;
-use super::record;
-use channel::device::Taken;
-use machine::numbers::flag;
+use host::device_calls::tozhenab_drop;
+use host::device_calls::tozhenab_put;
+use host::device_calls::tozhenab_take;
 
-fn put(numbers: &mut Numbers, n: usize) -> Outcome
-    requires { ⌜ n < 12 ⌝ }
+fn put(numbers: &mut [u64], at: usize) -> Outcome
+    requires { ⌜ length (now numbers) ≡ 648 ⌝ }
+    requires { ⌜ at ≤ 80 ⌝ }
 {
-    let c = record::channel(&*numbers, n);
-    let a = lent::put(c, numbers[ARGUMENT]);
-    let verdict = a.verdict;
-    let after = a.channel;
-    record::keep_channel(&mut *numbers, n, after);
-    given::verdict(verdict)
+    let word = numbers[ARGUMENT];
+    let refusal = tozhenab_put(&mut numbers[at..at + 4], word);
+    given::refusal(refusal)
 }
 
-fn taken(t: Taken) -> Outcome {
-    let refusal = t.number();
-    match t {
-        Taken::Word(word, mark) => Outcome::Answer(Given {
-            refusal,
-            count: 0,
-            word,
-            mark: flag(mark),
-        }),
-        Taken::Refused(_) => Outcome::Answer(Given {
-            refusal,
-            count: 0,
-            word: 0,
-            mark: 0,
-        }),
-    }
+fn take(numbers: &mut [u64], at: usize) -> Outcome
+    requires { ⌜ length (now numbers) ≡ 648 ⌝ }
+    requires { ⌜ at ≤ 80 ⌝ }
+{
+    let mut result = [0u64; 2];
+    let refusal = tozhenab_take(&mut numbers[at..at + 4], &mut result);
+    given::taken(refusal, result[0], result[1])
 }
 
-fn take(numbers: &mut Numbers, n: usize) -> Outcome
-    requires { ⌜ n < 12 ⌝ }
+fn drop(numbers: &mut [u64], at: usize) -> Outcome
+    requires { ⌜ length (now numbers) ≡ 648 ⌝ }
+    requires { ⌜ at ≤ 80 ⌝ }
 {
-    let c = record::channel(&*numbers, n);
-    let a = lent::take(c);
-    let verdict = a.verdict;
-    let after = a.channel;
-    record::keep_channel(&mut *numbers, n, after);
-    taken(verdict)
-}
-
-fn drop(numbers: &mut Numbers, n: usize) -> Outcome
-    requires { ⌜ n < 12 ⌝ }
-{
-    let c = record::channel(&*numbers, n);
-    let a = lent::drop(c);
-    let verdict = a.verdict;
-    let after = a.channel;
-    record::keep_channel(&mut *numbers, n, after);
-    given::verdict(verdict)
+    let refusal = tozhenab_drop(&mut numbers[at..at + 4]);
+    given::refusal(refusal)
 }
 
 pub(crate) fn answer(numbers: &mut Numbers) -> Outcome {
@@ -72,13 +48,13 @@ pub(crate) fn answer(numbers: &mut Numbers) -> Outcome {
     if 12 <= job {
         return Outcome::Unreadable;
     }
-    let n = job as usize;
+    let at = CHANNELS + 4 * (job as usize);
     let call = numbers[CALL];
     if call == 6 {
-        return put(&mut *numbers, n);
+        return put(&mut *numbers, at);
     }
     if call == 7 {
-        return take(&mut *numbers, n);
+        return take(&mut *numbers, at);
     }
-    drop(&mut *numbers, n)
+    drop(&mut *numbers, at)
 }

@@ -1,6 +1,4 @@
 // What a call gives beside the memories, the record and the stints.
-use outcome::refusal::Verdict;
-
 pub(crate) struct Given {
     // The number of the refusal, or 0.
     pub refusal: u64,
@@ -17,16 +15,26 @@ pub(crate) enum Outcome {
     Unreadable,
 }
 
-// The verdict and the rounds made.
-pub(crate) fn rounds(verdict: Verdict, count: u64) -> Outcome {
+// The refusal's number, or 0, and the word and the mark that a take gave.
+pub(crate) fn taken(refusal: u64, word: u64, mark: u64) -> Outcome {
     Outcome::Answer(Given {
-        refusal: verdict.number(),
+        refusal,
+        count: 0,
+        word,
+        mark,
+    })
+}
+
+// The refusal's number, or 0, and the rounds that a run made.
+pub(crate) fn rounds(refusal: u64, count: u64) -> Outcome {
+    Outcome::Answer(Given {
+        refusal,
         count,
         word: 0,
         mark: 0,
     })
 }
 
-pub(crate) fn verdict(verdict: Verdict) -> Outcome {
-    rounds(verdict, 0)
+pub(crate) fn refusal(refusal: u64) -> Outcome {
+    rounds(refusal, 0)
 }

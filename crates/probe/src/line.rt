@@ -18,23 +18,9 @@ const PERIPHERAL_COUNT: usize = 5;
 // processors.
 pub(crate) const RECORD: usize = 6;
 
-pub(crate) const P: usize = 6;
-
-pub(crate) const RA: usize = 7;
-
-pub(crate) const FL: usize = 8;
-
-pub(crate) const EM: usize = 9;
-
-pub(crate) const REGISTERS: usize = 10;
-
-pub(crate) const STOP: usize = 34;
-
 pub(crate) const CLOCK: usize = 35;
 // Of each channel the active flag, the full flag, the mark and the word.
 pub(crate) const CHANNELS: usize = 36;
-// Of each peripheral processor P, A and the stop.
-pub(crate) const PROCESSORS: usize = 84;
 
 pub(crate) const JOB_COUNT: usize = 114;
 

@@ -5,12 +5,10 @@ mod call;
 mod central_call;
 mod device_call;
 mod given;
-mod lent;
 mod line;
 mod machine_call;
 mod memory;
 mod reader;
-mod record;
 mod schedule_call;
 
 use line::Numbers;

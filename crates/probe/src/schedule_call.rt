@@ -2,66 +2,58 @@
 ghost use Prim.Native.Nat.{_≤_};
 use super::given;
 use super::given::Outcome;
+use super::line::CLOCK;
 use super::line::JOB_COUNT;
 use super::line::JOBS;
 use super::line::Numbers;
+use super::line::RECORD;
 use super::line::STINT_COUNT;
 use super::line::STINTS;
 use super::line::TURN_COUNT;
 use super::line::TURNS;
-use super::record;
-use exchange::record::Central;
-use outcome::refusal::Verdict;
-use shared::call::ScheduleAnswer;
-use shared::call::schedule;
+use host::schedule_call::tozhenab_schedule;
+
+// The turns and the stop of each stint.
+type Results = [u64; 514];
 
 fn make_schedule(
     memory: &mut [u64],
-    c: Central,
     numbers: &Numbers,
     jobs: usize,
     stints: usize,
     turns: usize,
-) -> ScheduleAnswer
+    result: &mut Results,
+) -> u64
     requires { ⌜ jobs ≤ 17 ⌝ }
     requires { ⌜ stints ≤ 257 ⌝ }
     requires { ⌜ turns ≤ 257 ⌝ }
 {
     let all = &numbers[..];
-    schedule(
+    tozhenab_schedule(
         &mut *memory,
-        c,
+        &all[RECORD..CLOCK],
         &all[JOBS..JOBS + jobs],
         &all[STINTS..STINTS + stints],
         &all[TURNS..TURNS + turns],
+        &mut *result,
     )
 }
 
 // The turns and the stops of the stints replace the lists of the line.
-fn keep_stints(numbers: &mut Numbers, turns: [u64; 256], stops: [u64; 256]) {
+fn keep_stints(numbers: &mut Numbers, result: &Results) {
     for i in 0..256usize {
-        numbers[STINTS + i] = turns[i];
-        numbers[TURNS + i] = stops[i];
+        numbers[STINTS + i] = result[2 * i];
+        numbers[TURNS + i] = result[2 * i + 1];
     }
 }
 
 // A refused schedule has no stints.
-fn keep_schedule(numbers: &mut Numbers, a: ScheduleAnswer) -> Outcome {
-    let verdict = a.verdict;
-    let central = a.central;
-    record::keep_central(&mut *numbers, central);
-    match verdict {
-        Verdict::Accepted => {
-            let turns = a.turns;
-            let stops = a.stops;
-            keep_stints(&mut *numbers, turns, stops);
-            given::verdict(verdict)
-        }
-        Verdict::Refused(_) => {
-            numbers[STINT_COUNT] = 0;
-            given::verdict(verdict)
-        }
+fn keep_schedule(numbers: &mut Numbers, refusal: u64, result: &Results) -> Outcome {
+    keep_stints(&mut *numbers, result);
+    if refusal != 0 {
+        numbers[STINT_COUNT] = 0;
     }
+    given::refusal(refusal)
 }
 
 // No line that is read counts past the room of a list, but the array does not say so.
@@ -78,14 +70,14 @@ pub(crate) fn answer(memory: &mut [u64], numbers: &mut Numbers) -> Outcome {
     if 257 < turns {
         return Outcome::Unreadable;
     }
-    let c = record::central(&*numbers);
-    let a = make_schedule(
+    let mut result = [0u64; 514];
+    let refusal = make_schedule(
         &mut *memory,
-        c,
         &*numbers,
         jobs as usize,
         stints as usize,
         turns as usize,
+        &mut result,
     );
-    keep_schedule(&mut *numbers, a)
+    keep_schedule(&mut *numbers, refusal, &result)
 }

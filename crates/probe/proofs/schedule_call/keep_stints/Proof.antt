@@ -5,10 +5,10 @@ use Rattle.probe.proofs.schedule_call.keep_stints.Statement.{statement}
 use Rattle.probe.proofs.schedule_call.keep_stints.Tie as tie
 
 abbrev Inv-loop : tie.InvT-loop
-Inv-loop numbers₀ turns stops i₀ numbers i = i ≤ 256
+Inv-loop numbers₀ result i₀ numbers i = i ≤ 256
 
 abbrev μ-loop : tie.MeasureT-loop
-μ-loop numbers₀ turns stops i₀ numbers i = 256 - i
+μ-loop numbers₀ result i₀ numbers i = 256 - i
 
 loop-holds : tie.Need-loop-holds Inv-loop μ-loop
 loop-holds c = search needs
@@ -16,29 +16,38 @@ loop-holds c = search needs
 mul-numbers : tie.Need-mul-numbers Inv-loop μ-loop
 mul-numbers c = search needs
 
-array-read-numbers : tie.Need-array-read-numbers Inv-loop μ-loop
-array-read-numbers c = search needs
+mul-numbers-2 : tie.Need-mul-numbers-2 Inv-loop μ-loop
+mul-numbers-2 c = search needs
+
+element-copy-out-numbers : tie.Need-element-copy-out-numbers Inv-loop μ-loop
+element-copy-out-numbers c = search needs
 
 add-numbers : tie.Need-add-numbers Inv-loop μ-loop
 add-numbers c = search needs
 
-mul-numbers-2 : tie.Need-mul-numbers-2 Inv-loop μ-loop
-mul-numbers-2 c = search needs
+mul-numbers-3 : tie.Need-mul-numbers-3 Inv-loop μ-loop
+mul-numbers-3 c = search needs
 
 element-write-numbers : tie.Need-element-write-numbers Inv-loop μ-loop
 element-write-numbers c = search needs
 
-mul-numbers-3 : tie.Need-mul-numbers-3 Inv-loop μ-loop
-mul-numbers-3 c = search needs
-
-array-read-numbers-2 : tie.Need-array-read-numbers-2 Inv-loop μ-loop
-array-read-numbers-2 c = search needs
+mul-numbers-4 : tie.Need-mul-numbers-4 Inv-loop μ-loop
+mul-numbers-4 c = search needs
 
 add-numbers-2 : tie.Need-add-numbers-2 Inv-loop μ-loop
 add-numbers-2 c = search needs
 
-mul-numbers-4 : tie.Need-mul-numbers-4 Inv-loop μ-loop
-mul-numbers-4 c = search needs
+mul-numbers-5 : tie.Need-mul-numbers-5 Inv-loop μ-loop
+mul-numbers-5 c = search needs
+
+element-copy-out-numbers-2 : tie.Need-element-copy-out-numbers-2 Inv-loop μ-loop
+element-copy-out-numbers-2 c = search needs
+
+add-numbers-3 : tie.Need-add-numbers-3 Inv-loop μ-loop
+add-numbers-3 c = search needs
+
+mul-numbers-6 : tie.Need-mul-numbers-6 Inv-loop μ-loop
+mul-numbers-6 c = search needs
 
 element-write-numbers-2 : tie.Need-element-write-numbers-2 Inv-loop μ-loop
 element-write-numbers-2 c = search needs
@@ -63,14 +72,17 @@ keep-stints-spec =
     μ-loop
     loop-holds
     mul-numbers
-    array-read-numbers
-    add-numbers
     mul-numbers-2
-    element-write-numbers
+    element-copy-out-numbers
+    add-numbers
     mul-numbers-3
-    array-read-numbers-2
-    add-numbers-2
+    element-write-numbers
     mul-numbers-4
+    add-numbers-2
+    mul-numbers-5
+    element-copy-out-numbers-2
+    add-numbers-3
+    mul-numbers-6
     element-write-numbers-2
     add-i
     loop-less

@@ -1,0 +1,4 @@
+-- Consequences of the definitions. Assumes nothing.
+pub mod Read
+pub mod Write
+pub mod Lent

@@ -1,0 +1,34 @@
+-- `host::device_calls::tozhenab_drop` meets its contract. Assumes nothing.
+use borrow.Author.Needs.{needs}
+use Rattle.host.specs.Laws.Device.{drop-stores, drop-is}
+use Rattle.host.proofs.device_calls.tozhenab_drop.Statement.{statement}
+use Rattle.host.proofs.device_calls.tozhenab_drop.Tie as tie
+
+-- `host::device_calls::tozhenab_drop` meets its contract. Assumes nothing.
+
+channel-lent-requires : tie.Need-channel-lent-requires
+channel-lent-requires c κs = search needs
+
+drop-requires : tie.Need-drop-requires
+drop-requires c κs = search needs
+
+keep-channel-requires : tie.Need-keep-channel-requires
+keep-channel-requires c κs =
+    let channel-lent = c .before .before .before .channel-lent in
+    let drop = c .before .before .drop in
+    drop-stores _ _ (channel-lent .ensures) _ (drop .ensures)
+
+same-length : tie.Need-same-length
+same-length c = search needs
+
+returns : tie.Need-returns
+returns c =
+    let channel-lent = c .before .before .before .before .before .before .channel-lent in
+    let keep-channel = c .before .before .keep-channel in
+    let drop = c .before .before .before .before .before .drop in
+    drop-is _ _ (channel-lent .ensures) _ _ (keep-channel .ensures) (drop .ensures)
+
+pub tozhenab-drop-spec : {M : Type 1} → statement M
+tozhenab-drop-spec =
+    tie.close
+    (tie.spec channel-lent-requires drop-requires keep-channel-requires same-length returns)

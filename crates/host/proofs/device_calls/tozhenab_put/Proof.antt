@@ -1,0 +1,34 @@
+-- `host::device_calls::tozhenab_put` meets its contract. Assumes nothing.
+use borrow.Author.Needs.{needs}
+use Rattle.host.specs.Laws.Device.{put-stores, put-is}
+use Rattle.host.proofs.device_calls.tozhenab_put.Statement.{statement}
+use Rattle.host.proofs.device_calls.tozhenab_put.Tie as tie
+
+-- `host::device_calls::tozhenab_put` meets its contract. Assumes nothing.
+
+channel-lent-requires : tie.Need-channel-lent-requires
+channel-lent-requires c κs = search needs
+
+put-requires : tie.Need-put-requires
+put-requires c κs = search needs
+
+keep-channel-requires : tie.Need-keep-channel-requires
+keep-channel-requires c κs =
+    let channel-lent = c .before .before .before .channel-lent in
+    let put = c .before .before .put in
+    put-stores _ _ (channel-lent .ensures) _ _ (put .ensures)
+
+same-length : tie.Need-same-length
+same-length c = search needs
+
+returns : tie.Need-returns
+returns c =
+    let channel-lent = c .before .before .before .before .before .before .channel-lent in
+    let keep-channel = c .before .before .keep-channel in
+    let put = c .before .before .before .before .before .put in
+    put-is _ _ (channel-lent .ensures) _ _ (keep-channel .ensures) _ (put .ensures)
+
+pub tozhenab-put-spec : {M : Type 1} → statement M
+tozhenab-put-spec =
+    tie.close
+    (tie.spec channel-lent-requires put-requires keep-channel-requires same-length returns)

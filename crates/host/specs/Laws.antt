@@ -1,0 +1,6 @@
+-- Consequences of the definitions. Assumes nothing.
+pub mod Back
+pub mod Central
+pub mod Schedule
+pub mod Machine
+pub mod Device

@@ -1,0 +1,71 @@
+-- The calls on the central processor by the results of their parts. Assumes nothing.
+use mathlib.Core.List.{List, [], _∷_}
+use mathlib.Core.Path.{_≡_, refl, sym, ap, _∙_}
+use Prim.Native.Nat.{ℕ, _≤_, _<_}
+use borrow.Author.Tests.{le-leb, lt-leb}
+use lib.ListN.{length}
+use lib.Seq.{sets}
+use Rattle.outcome.specs.Numbers.{verdictNumber}
+use Rattle.outcome.specs.declared.refusal.Verdict.{Verdict}
+use Rattle.outcome.specs.declared.refusal.Verdict.the-variants as Call
+use Rattle.exchange.specs.Record.{hostVerdict}
+use Rattle.exchange.specs.Laws.Verdicts.{HostAccepted, host-accepted}
+use Rattle.exchange.specs.declared.record.Central.{Central}
+use Rattle.single.specs.Host.{Machine, Answered, answerTo, answerBy, turnAnswer, exchangeAnswer}
+use Rattle.single.specs.Program.{runTo, runAnswer}
+use Rattle.single.specs.Laws.Host.{exchange-host}
+use Rattle.single.specs.declared.host.Answer.{Answer}
+use Rattle.single.specs.declared.program.RunAnswer.{RunAnswer}
+use Rattle.flat.specs.Layout.{centralNumbers}
+use Rattle.flat.specs.Lent.{centralLent}
+use Rattle.flat.specs.Laws.Lent.{central-length}
+use Rattle.host.specs.Back.{Back, back, backBy, shortNumber}
+use Rattle.host.specs.Central.{centralLeft, centralLeftBy, centralTurn, centralExchange, resultLeft, programLeft, programRun}
+
+verdict-of : (v : Verdict) (given after : Machine) → answerBy v given after .answer .verdict ≡ v
+verdict-of Call.Accepted given after = refl
+verdict-of (Call.Refused r) given after = refl
+
+module _ (m c n : List ℕ) (k : Central) (given : k ≡ centralLent c) where
+  module _ (a : Answer) where
+    -- the record of an accepted turn or exchange jump is stored into a slice of its length
+    stores : (v : Verdict) (w x : Machine) → answerTo n a ≡ answerBy v w x → (v ≡ Call.Accepted → HostAccepted m k)
+        → a .verdict ≡ Call.Accepted → length c ≡ 29
+    stores v w x e host ok =
+        let accepted = host (sym (verdict-of v w x) ∙ sym (ap (λ (y : Answered). y .answer .verdict) e) ∙ ok) in
+        central-length (length m) c (rw given at (accepted .fits))
+
+    pub turn-stores : answerTo n a ≡ turnAnswer m k → a .verdict ≡ Call.Accepted → length c ≡ 29
+    unfolding turnAnswer
+    turn-stores e = stores _ _ _ e (host-accepted m k)
+
+    pub exchange-stores : (at : ℕ) → answerTo n a ≡ exchangeAnswer m k at → a .verdict ≡ Call.Accepted → length c ≡ 29
+    unfolding exchangeAnswer
+    exchange-stores at e = stores _ _ _ e (exchange-host m k at)
+
+    -- the answer of an entry point, and the record kept
+    module _ (d : List ℕ) (number : ℕ) (h : back number d ≡ backBy (a .verdict) (centralNumbers (a .central)) c) where
+      left-is : (x : Answered) → answerTo n a ≡ x → centralLeft number n d ≡ centralLeftBy c x
+      left-is x e = ap (λ (b : Back). centralLeft (b .number) n (b .lent)) h ∙ ap (centralLeftBy c) e
+
+      pub turn-is : answerTo n a ≡ turnAnswer m k → centralLeft number n d ≡ centralTurn m c
+      unfolding centralTurn
+      turn-is e = left-is (turnAnswer m (centralLent c)) (e ∙ ap (turnAnswer m) given)
+
+      pub exchange-is : (at : ℕ) → answerTo n a ≡ exchangeAnswer m k at → centralLeft number n d ≡ centralExchange m c at
+      unfolding centralExchange
+      exchange-is at e = left-is (exchangeAnswer m (centralLent c) at) (e ∙ ap (λ (y : Central). exchangeAnswer m y at) given)
+
+  -- the run of a program, whose result has room; below, where it has none
+  module _ (out : List ℕ) (at turns number : ℕ) where
+    pub program-is : (a : RunAnswer) → 2 ≤ length out → runTo n a ≡ runAnswer m k at turns → number ≡ verdictNumber (a .verdict)
+        → resultLeft number n (sets out 0 (a .turns ∷ a .stop ∷ [])) ≡ programRun m c at turns out
+    unfolding programRun
+    program-is a room e h =
+        rw (le-leb 2 (length out) room, h)
+        (ap (programLeft out) (e ∙ ap (λ (y : Central). runAnswer m y at turns) given))
+
+pub program-short : (m c out : List ℕ) (k : Central) (at turns number : ℕ) (v : Verdict) → k ≡ centralLent c → length out < 2
+    → v ≡ hostVerdict m k → number ≡ shortNumber v → resultLeft number m out ≡ programRun m c at turns out
+unfolding programRun
+program-short m c out k at turns number v given none e h = rw (lt-leb 2 (length out) none, ← given, ← e, h)

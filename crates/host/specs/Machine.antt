@@ -1,0 +1,53 @@
+-- The calls on the whole machine, on a record of 108 numbers. Assumes nothing.
+use mathlib.Core.Bool.{true, cond}
+use mathlib.Core.List.{List, [], _∷_}
+use Prim.Native.Nat.{ℕ}
+use lib.Dec.{leb}
+use lib.ListN.{length}
+use lib.Seq.{sets}
+use Rattle.outcome.specs.Numbers.{verdictNumber}
+use Rattle.machine_record.specs.Verdict.{machineVerdict}
+use Rattle.whole.specs.Call.{TurnAnswered, turnAnswer, RunAnswered, runAnswer}
+use Rattle.flat.specs.Layout.{machineNumbers}
+use Rattle.flat.specs.Lent.{machineLent}
+use Rattle.host.specs.Back.{kept, shortNumber}
+
+-- the number, both memories and the record
+pub record MachineLeft : Type 0 where
+  pub number : ℕ
+  pub central : List ℕ
+  pub peripheral : List ℕ
+  pub machine : List ℕ
+
+abbrev pub machineLeft : ℕ → List ℕ → List ℕ → List ℕ → MachineLeft
+machineLeft n c m r = record { number = n; central = c; peripheral = m; machine = r }
+
+abbrev pub machineLeftBy : List ℕ → TurnAnswered → MachineLeft
+machineLeftBy r a =
+    machineLeft (verdictNumber (a .answer .verdict)) (a .central) (a .peripheral)
+    (kept (a .answer .verdict) (machineNumbers (a .answer .machine)) r)
+
+unfoldable pub processorTurn : List ℕ → List ℕ → List ℕ → ℕ → MachineLeft
+processorTurn c m r n = machineLeftBy r (turnAnswer c m (machineLent r) n)
+
+-- the same with the result slice
+pub record RunLeft : Type 0 where
+  pub number : ℕ
+  pub central : List ℕ
+  pub peripheral : List ℕ
+  pub machine : List ℕ
+  pub result : List ℕ
+
+abbrev pub runLeft : ℕ → List ℕ → List ℕ → List ℕ → List ℕ → RunLeft
+runLeft n c m r out = record { number = n; central = c; peripheral = m; machine = r; result = out }
+
+-- the rounds made in the first entry; after a refusal "counts are 0"
+abbrev pub runLeftBy : List ℕ → List ℕ → RunAnswered → RunLeft
+runLeftBy r out a =
+    runLeft (verdictNumber (a .answer .verdict)) (a .central) (a .peripheral)
+    (kept (a .answer .verdict) (machineNumbers (a .answer .machine)) r) (sets out 0 (a .answer .rounds ∷ []))
+
+unfoldable pub machineRun : List ℕ → List ℕ → List ℕ → ℕ → List ℕ → RunLeft
+machineRun c m r n out =
+    cond (leb 1 (length out)) (runLeftBy r out (runAnswer c m (machineLent r) n))
+    (runLeft (shortNumber (machineVerdict true c m (machineLent r))) c m r out)

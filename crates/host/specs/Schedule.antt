@@ -1,0 +1,29 @@
+-- The call that runs a schedule, on a record of 29 numbers. Assumes nothing.
+use mathlib.Core.Bool.{cond}
+use mathlib.Core.List.{List, [], _∷_}
+use Prim.Native.Nat.{ℕ, _*_}
+use lib.Dec.{leb}
+use lib.ListN.{length, getD}
+use lib.Seq.{sets}
+use Rattle.outcome.specs.Numbers.{verdictNumber}
+use Rattle.exchange.specs.Record.{hostVerdict}
+use Rattle.shared.specs.Answer.{scheduleOf, Answered, scheduleAnswer}
+use Rattle.flat.specs.Layout.{rows}
+use Rattle.flat.specs.Lent.{centralLent}
+use Rattle.host.specs.Back.{shortNumber}
+use Rattle.host.specs.Central.{ResultLeft, resultLeft}
+
+-- the turns made and the stop of stint i
+abbrev pub stintRow : List ℕ → List ℕ → ℕ → List ℕ
+stintRow turns stops i = getD turns i 0 ∷ getD stops i 0 ∷ []
+
+-- those of n stints from the first entry on; after a refusal "counts are 0"
+abbrev pub scheduleLeft : List ℕ → ℕ → Answered → ResultLeft
+scheduleLeft out n a =
+    resultLeft (verdictNumber (a .answer .verdict)) (a .memory) (sets out 0 (rows n (stintRow (a .answer .turns) (a .answer .stops))))
+
+unfoldable pub scheduleRun : List ℕ → List ℕ → List ℕ → List ℕ → List ℕ → List ℕ → ResultLeft
+scheduleRun m c jobs js ts out =
+    cond (leb (2 * length js) (length out))
+    (scheduleLeft out (length js) (scheduleAnswer (scheduleOf m (centralLent c) jobs js ts)))
+    (resultLeft (shortNumber (hostVerdict m (centralLent c))) m out)

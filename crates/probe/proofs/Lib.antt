@@ -1,4 +1,0 @@
--- The walks by hand that `lent::put`, `take` and `drop` cite.
-pub mod Loan
-pub mod LoanAlone
-pub mod LoanWord
