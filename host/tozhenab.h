@@ -71,7 +71,7 @@ extern "C" {
 #define TOZHENAB_CENTRAL_X 20 /* X0 to X7 */
 #define TOZHENAB_CENTRAL_STOP 28
 
-/* Channel. The flags are 0 or 1; the mark says that the word is a function. The word has 12 bits. */
+/* Channel. The flags are 0 or 1; the mark says that the word, of 12 bits, is a function. */
 #define TOZHENAB_CHANNEL_NUMBERS 4
 #define TOZHENAB_CHANNEL_ACTIVE 0
 #define TOZHENAB_CHANNEL_FULL 1

@@ -1,4 +1,5 @@
-//! Tozhenab, a proved CDC 6600, called from Rust. The rules of the machine are those of document 01.
+//! Tozhenab, a proved CDC 6600, called from Rust. The rules of the machine are those of document
+//! 01.
 //!
 //! Two layers make the same nine calls:
 //!

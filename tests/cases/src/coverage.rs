@@ -11,6 +11,7 @@ use tozhenab::layout::{self, PROCESSORS, PROCESSOR_STOP, STOP};
 
 mod codes;
 mod conditions;
+mod facts;
 mod table;
 
 use codes::Codes;

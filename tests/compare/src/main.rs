@@ -24,6 +24,10 @@ use std::env;
 use std::process::ExitCode;
 use std::time::Instant;
 
+/// The cases that are compared where no others are asked for.
+const SEED: u64 = 1;
+const CASES: u64 = 1_000_000;
+
 /// Differences after which the comparison ends.
 const MOST_DIFFERENCES: usize = 5;
 
@@ -38,13 +42,13 @@ fn task(arguments: &[&str]) -> Option<Task> {
     let number = |text: &str| text.parse().ok();
     Some(match arguments {
         [] => Task::Cases {
-            seed: 1,
-            cases: 1_000_000,
+            seed: SEED,
+            cases: CASES,
         },
         ["--store"] => Task::Store,
         [seed] => Task::Cases {
             seed: number(seed)?,
-            cases: 1_000_000,
+            cases: CASES,
         },
         [seed, "--only", index] => Task::Only {
             seed: number(seed)?,

@@ -4,56 +4,59 @@ use super::Seen;
 use crate::case::Call;
 use crate::central::MOST_WORDS;
 use crate::peripheral::WORDS;
-use std::ops::RangeInclusive;
-use tozhenab::layout::{
-    self, CHANNELS, CHANNEL_NUMBERS, CLOCK, FL, MACHINE_NUMBERS, MARK, P, PROCESSORS, PROCESSOR_P,
-    PROCESSOR_STOP, RA, STOP, X,
-};
+use tozhenab::layout::{CLOCK, FL, MARK, P, PROCESSORS, PROCESSOR_P, PROCESSOR_STOP, STOP};
 
 type Condition = (&'static str, fn(&Seen) -> bool);
 
+/// A name begins with the refusal that was given, if the condition is one of a refusal.
 pub const CONDITIONS: [Condition; 49] = [
     ("5: a record of another length", |s| {
-        s.number == 5 && misshapen(s)
+        s.number == 5 && s.has_another_length()
     }),
     ("5: a channel's flag over 1", |s| {
-        s.number == 5 && flag_over_1(s)
+        s.number == 5 && s.has_flag_over_1()
     }),
-    ("6: a short result", |s| s.number == 6 && short_result(s)),
-    ("another refusal before a short result", |s| {
-        (1..6).contains(&s.number) && short_result(s)
+    ("5: a value of more than 32 bits", |s| {
+        s.number == 5 && s.is_very_wide()
     }),
-    ("a short result before another refusal", |s| {
-        s.number == 6 && short_result(s) && s.case.faults.iter().any(|&fault| fault > 6)
+    ("6: a short result", |s| {
+        s.number == 6 && s.has_short_result()
+    }),
+    ("6: a short result, and a later refusal due", |s| {
+        s.number == 6 && s.has_short_result() && s.case.faults.iter().any(|&fault| fault > 6)
+    }),
+    ("1 to 5, and a short result", |s| {
+        (1..6).contains(&s.number) && s.has_short_result()
     }),
     ("a result with room to spare, carried out", |s| {
-        s.number == 0 && spare_result(s)
+        s.number == 0 && s.has_spare_result()
     }),
     ("a result with room to spare, refused", |s| {
-        s.number > 0 && spare_result(s)
+        s.number > 0 && s.has_spare_result()
     }),
-    ("6: no job", |s| s.number == 6 && jobs(s) == Some(0)),
-    ("6: 17 jobs", |s| s.number == 6 && jobs(s) == Some(17)),
-    ("16 jobs", |s| s.number == 0 && jobs(s) == Some(16)),
+    ("6: no job", |s| s.has_wrong_lists() && s.jobs() == Some(0)),
+    ("6: 17 jobs", |s| {
+        s.has_wrong_lists() && s.jobs() == Some(17)
+    }),
+    ("16 jobs", |s| s.number == 0 && s.jobs() == Some(16)),
     ("6: 257 stints", |s| {
-        s.number == 6 && stints(s) == Some((257, 257))
+        s.has_wrong_lists() && s.stints() == Some((257, 257))
     }),
     ("256 stints", |s| {
-        s.number == 0 && stints(s) == Some((256, 256))
+        s.number == 0 && s.stints() == Some((256, 256))
     }),
-    ("no stint", |s| s.number == 0 && stints(s) == Some((0, 0))),
+    ("no stint", |s| s.number == 0 && s.stints() == Some((0, 0))),
     ("6: more jobs of stints than turns", |s| {
-        s.number == 6 && stints(s).is_some_and(|(jobs, turns)| jobs > turns)
+        s.has_wrong_lists() && s.stints().is_some_and(|(jobs, turns)| jobs > turns)
     }),
     ("6: more turns of stints than jobs", |s| {
-        s.number == 6 && stints(s).is_some_and(|(jobs, turns)| jobs < turns)
+        s.has_wrong_lists() && s.stints().is_some_and(|(jobs, turns)| jobs < turns)
     }),
     ("a program that uses up 65,535 turns", |s| {
-        ran(s, |turns, stop| turns == 65_535 && stop == 0)
+        s.ran() == Some((65_535, 0))
     }),
-    ("a program of 0 turns", |s| {
-        ran(s, |turns, stop| turns == 0 && stop == 0)
-    }),
+    ("a program of 0 turns", |s| s.ran() == Some((0, 0))),
+    ("a job run again after its stop", |s| s.ran_after_stop()),
     ("1: no central memory", |s| {
         s.number == 1 && s.case.lent.memory.is_empty()
     }),
@@ -76,213 +79,63 @@ pub const CONDITIONS: [Condition; 49] = [
         s.number == 2 && s.case.lent.peripheral.len() % WORDS != 0
     }),
     ("2: no such processor", |s| {
-        s.number == 2 && absent_processor(s)
+        s.number == 2 && s.asks_absent_processor()
     }),
     ("ten processors", |s| {
         s.number == 0 && s.case.lent.peripheral.len() == PROCESSORS * WORDS
     }),
-    ("RA + FL at the end of memory", |s| {
-        central_turn(s) && field_end(s)
+    ("a turn: RA + FL at the end of memory", |s| {
+        s.is_central_turn() && s.field_ends_with_memory()
     }),
-    ("P = FL - 1", |s| {
-        central_turn(s) && s.case.lent.record[P] + 1 == s.case.lent.record[FL]
+    ("a turn: P = FL - 1", |s| {
+        s.is_central_turn() && s.case.lent.record[P] + 1 == s.case.lent.record[FL]
     }),
-    ("P = FL", |s| {
-        central_turn(s) && s.case.lent.record[P] == s.case.lent.record[FL]
+    ("a turn: P = FL", |s| {
+        s.is_central_turn() && s.case.lent.record[P] == s.case.lent.record[FL]
     }),
     ("a turn of a stopped central processor", |s| {
-        central_turn(s) && s.case.lent.record[STOP] != 0
+        s.is_central_turn() && s.case.lent.record[STOP] != 0
     }),
+    ("an exchange at a package in its own field", |s| {
+        s.exchanged_in_field()
+    }),
+    ("010 to FL - 1", |s| s.direct(0o010..=0o010) == Some(-1)),
+    ("010 to FL", |s| s.direct(0o010..=0o010) == Some(0)),
+    ("a read at FL - 1", |s| s.direct(0o511..=0o515) == Some(-1)),
+    ("a read at FL", |s| s.direct(0o511..=0o515) == Some(0)),
+    ("a store at FL - 1", |s| s.direct(0o516..=0o517) == Some(-1)),
+    ("a store at FL", |s| s.direct(0o516..=0o517) == Some(0)),
     ("a turn of a stopped peripheral processor", |s| {
-        peripheral(s, PROCESSOR_STOP).is_some_and(|stop| stop != 0)
+        s.processor(PROCESSOR_STOP).is_some_and(|stop| stop != 0)
     }),
     ("a peripheral instruction at 7777", |s| {
-        peripheral(s, PROCESSOR_P) == Some(0o7777)
+        s.processor(PROCESSOR_P) == Some(0o7777)
+    }),
+    ("70 on the clock's channel", |s| {
+        s.peripheral_word() == Some(0o7014)
+    }),
+    ("66 on the clock's channel", |s| {
+        s.peripheral_word() == Some(0o6614)
+    }),
+    ("72 on the clock's channel", |s| {
+        s.peripheral_word() == Some(0o7214)
     }),
     ("a run of all its rounds", |s| {
-        rounds(s, |made, asked| made == asked && asked > 1)
+        s.rounds()
+            .is_some_and(|(made, asked)| made == asked && asked > 1)
     }),
     ("a run that ends early", |s| {
-        rounds(s, |made, asked| 0 < made && made < asked)
+        s.rounds()
+            .is_some_and(|(made, asked)| 0 < made && made < asked)
     }),
     ("a run of stopped processors", |s| {
-        rounds(s, |made, asked| made == 0 && asked > 0)
+        s.rounds()
+            .is_some_and(|(made, asked)| made == 0 && asked > 0)
     }),
     ("a clock that passes 7777", |s| {
-        rounds(s, |made, _| made > 0) && s.after.record[CLOCK] < s.case.lent.record[CLOCK]
+        s.rounds().is_some() && s.after.record[CLOCK] < s.case.lent.record[CLOCK]
     }),
     ("a function taken", |s| {
         s.number == 0 && matches!(s.case.call, Call::Take) && s.case.lent.record[MARK] == 1
     }),
-    ("5: a value of more than 32 bits", |s| {
-        s.number == 5 && very_wide(s)
-    }),
-    ("a job run again after its stop", |s| {
-        s.number == 0 && ran_after_stop(s)
-    }),
-    (
-        "an exchange at a package in its own field",
-        exchanged_in_field,
-    ),
-    ("010 to FL - 1", |s| {
-        direct(s, 0o010..=0o010, |k, fl| k + 1 == fl)
-    }),
-    ("010 to FL", |s| direct(s, 0o010..=0o010, |k, fl| k == fl)),
-    ("a read at FL - 1", |s| {
-        direct(s, 0o511..=0o515, |k, fl| k + 1 == fl)
-    }),
-    ("a read at FL", |s| {
-        direct(s, 0o511..=0o515, |k, fl| k == fl)
-    }),
-    ("a store at FL - 1", |s| {
-        direct(s, 0o516..=0o517, |k, fl| k + 1 == fl)
-    }),
-    ("a store at FL", |s| {
-        direct(s, 0o516..=0o517, |k, fl| k == fl)
-    }),
-    ("70 of the clock", |s| peripheral_word(s) == Some(0o7014)),
-    ("66 on the clock's channel", |s| {
-        peripheral_word(s) == Some(0o6614)
-    }),
-    ("72 on the clock's channel", |s| {
-        peripheral_word(s) == Some(0o7214)
-    }),
 ];
-
-fn misshapen(s: &Seen) -> bool {
-    s.case.lent.record.len() != s.case.call.record_length()
-}
-
-fn flag_over_1(s: &Seen) -> bool {
-    let over = |channel: &[u64]| channel[..3].iter().any(|&flag| flag > 1);
-    let record = &s.case.lent.record;
-    match record.len() {
-        _ if misshapen(s) => false,
-        CHANNEL_NUMBERS => over(record),
-        MACHINE_NUMBERS => (0..CHANNELS).any(|n| over(&record[layout::channel(n)..])),
-        _ => false,
-    }
-}
-
-fn short_result(s: &Seen) -> bool {
-    s.case.lent.result.len() < s.case.call.result_length()
-}
-
-fn spare_result(s: &Seen) -> bool {
-    s.case.lent.result.len() > s.case.call.result_length()
-}
-
-fn jobs(s: &Seen) -> Option<usize> {
-    match &s.case.call {
-        Call::Schedule { jobs, .. } => Some(jobs.len()),
-        _ => None,
-    }
-}
-
-fn stints(s: &Seen) -> Option<(usize, usize)> {
-    match &s.case.call {
-        Call::Schedule {
-            stint_jobs,
-            stint_turns,
-            ..
-        } => Some((stint_jobs.len(), stint_turns.len())),
-        _ => None,
-    }
-}
-
-/// The turns and the stop of a program that was run by itself.
-fn ran(s: &Seen, holds: fn(u64, u64) -> bool) -> bool {
-    let program = matches!(s.case.call, Call::RunProgram { .. });
-    s.number == 0 && program && holds(s.after.result[0], s.after.result[1])
-}
-
-/// The rounds made and asked of a run.
-fn rounds(s: &Seen, holds: fn(u64, u64) -> bool) -> bool {
-    match s.case.call {
-        Call::Run { rounds } => s.number == 0 && holds(s.after.result[0], rounds),
-        _ => false,
-    }
-}
-
-fn absent_processor(s: &Seen) -> bool {
-    let length = s.case.lent.peripheral.len();
-    match s.case.call {
-        Call::PeripheralTurn { processor } => {
-            length > 0 && length.is_multiple_of(WORDS) && processor >= (length / WORDS) as u64
-        }
-        _ => false,
-    }
-}
-
-fn central_turn(s: &Seen) -> bool {
-    s.number == 0 && matches!(s.case.call, Call::CentralTurn)
-}
-
-fn field_end(s: &Seen) -> bool {
-    let lent = &s.case.lent;
-    lent.record[RA] + lent.record[FL] == lent.memory.len() as u64
-}
-
-/// A number of the record of the processor whose turn it was.
-fn peripheral(s: &Seen, number: usize) -> Option<u64> {
-    match s.case.call {
-        Call::PeripheralTurn { processor } if s.number == 0 => {
-            Some(s.case.lent.record[layout::processor(processor as usize) + number])
-        }
-        _ => None,
-    }
-}
-
-fn very_wide(s: &Seen) -> bool {
-    let registers_x = |place: usize| (X..STOP).contains(&place);
-    let mut numbers = s.case.lent.record.iter().enumerate();
-    !misshapen(s) && numbers.any(|(place, number)| number >> 32 != 0 && !registers_x(place))
-}
-
-/// A stop of a stint, and turns made in a later stint of its job.
-fn ran_after_stop(s: &Seen) -> bool {
-    let Call::Schedule { stint_jobs, .. } = &s.case.call else {
-        return false;
-    };
-    let mut stopped = [false; 16];
-    stint_jobs
-        .iter()
-        .zip(s.after.result.chunks_exact(2))
-        .any(|(&job, ran)| {
-            let again = stopped[job as usize] && ran[0] > 0;
-            stopped[job as usize] |= ran[1] != 0;
-            again
-        })
-}
-
-fn exchanged_in_field(s: &Seen) -> bool {
-    let record = &s.after.record;
-    match s.case.call {
-        Call::Exchange { address } if s.number == 0 => {
-            record[RA] <= address && address < record[RA] + record[FL]
-        }
-        _ => false,
-    }
-}
-
-/// A running central turn whose word begins with one of these nine-bit codes and j = 0, and its K
-/// and FL. With j = 0 the address of 51 is K.
-fn direct(s: &Seen, codes: RangeInclusive<u64>, holds: fn(u64, u64) -> bool) -> bool {
-    let record = &s.case.lent.record;
-    if !central_turn(s) || record[STOP] != 0 || record[P] >= record[FL] {
-        return false;
-    }
-    let word = s.case.lent.memory[(record[RA] + record[P]) as usize];
-    let (code, j, k) = (word >> 51, word >> 48 & 7, word >> 30 & 0o777777);
-    codes.contains(&code) && j == 0 && holds(k, record[FL])
-}
-
-/// The word at P of the running processor whose turn it was.
-fn peripheral_word(s: &Seen) -> Option<u16> {
-    let Call::PeripheralTurn { processor } = s.case.call else {
-        return None;
-    };
-    let p = peripheral(s, PROCESSOR_P)? as usize;
-    let running = peripheral(s, PROCESSOR_STOP)? == 0;
-    running.then(|| s.case.lent.peripheral[WORDS * processor as usize + p])
-}
