@@ -16,19 +16,12 @@ fn addresses(call: &mut Call) -> &mut [u64] {
     }
 }
 
+/// A package from 15 words before the end of memory on, or far past it.
 pub fn past_end(rng: &mut Rng, case: &mut Case) {
     let length = case.lent.memory.len() as u64;
-    let near = (length + 1).saturating_sub(rng.below(WORDS as u64));
-    let past = rng.pick(&[
-        near,
-        near,
-        length,
-        1 << 18,
-        1 << 32,
-        1 << 61,
-        u64::MAX - 15,
-        u64::MAX,
-    ]);
+    let near = (length + 1).saturating_sub(rng.below(WORDS as u64 + 1));
+    let far = [1 << 18, 1 << 32, 1 << 61, u64::MAX - 15, u64::MAX];
+    let past = if rng.one_in(2) { near } else { rng.pick(&far) };
     let jobs = addresses(&mut case.call);
     if !jobs.is_empty() {
         jobs[rng.place(jobs.len())] = past;
@@ -51,16 +44,17 @@ fn set_high(word: &mut u64, value: u64) {
     *word = value << HIGH | (*word & ((1 << HIGH) - 1));
 }
 
-/// Sets a bit that has to be zero.
+/// Sets one of the bits that have to be zero.
 pub fn stray(rng: &mut Rng, case: &mut Case) {
     let Some(at) = one_package(rng, case) else {
         return;
     };
     let word = rng.place(8);
-    let stray = stray_bits(word);
-    let bit = 1 << rng.below(60);
-    let lowest = stray & stray.wrapping_neg();
-    case.lent.memory[at + word] |= if stray & bit == 0 { lowest } else { bit };
+    let bits: Vec<u64> = (0..60)
+        .map(|n| 1 << n)
+        .filter(|bit| stray_bits(word) & bit != 0)
+        .collect();
+    case.lent.memory[at + word] |= rng.pick(&bits);
 }
 
 /// RA + FL one past the memory, or as large as they can be.
