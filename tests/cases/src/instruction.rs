@@ -72,11 +72,12 @@ pub fn program_word(rng: &mut Rng, fl: u64) -> u64 {
     word_with(rng, code, fl)
 }
 
-/// A word of a program that is to go on for long: nothing that stops or stores.
-pub fn loop_word(rng: &mut Rng) -> u64 {
+/// A word of a loop: nothing that stops, stores or sets a B register.
+fn loop_word(rng: &mut Rng) -> u64 {
     (0..4).fold(0, |word, _| {
         let code = rng.pick(&COMPUTING);
-        let parcel = if is_long(code) || code >> 3 == 5 {
+        let left_alone = is_long(code) || code == 0o26 || matches!(code >> 3, 5 | 6);
+        let parcel = if left_alone {
             0o46 << 9
         } else {
             code << 9 | rng.below(0o1000)
@@ -85,8 +86,32 @@ pub fn loop_word(rng: &mut Rng) -> u64 {
     })
 }
 
-/// The word that ends such a program: 02, which goes to its beginning.
-pub const GO_TO_BEGIN: u64 = 0o02 << 54;
+/// 02, which goes to the beginning.
+const GO_TO_BEGIN: u64 = 0o02 << 54;
+
+/// B1 = B1 - 1, then 05, which goes to the beginning where B1 is not zero.
+const COUNT_DOWN: u64 = 0o61117_77776_05100_00000;
+
+/// The words of a field: mostly any program, at times a loop that has no end, or one that counts
+/// B1 down and goes on to a last word.
+pub fn fill_field(rng: &mut Rng, field: &mut [u64]) {
+    let fl = field.len() as u64;
+    let end = match rng.below(8) {
+        0 => &[GO_TO_BEGIN][..],
+        1 => &[COUNT_DOWN, field_word(rng, fl)],
+        _ => &[],
+    };
+    for word in &mut *field {
+        *word = if end.is_empty() {
+            field_word(rng, fl)
+        } else {
+            loop_word(rng)
+        };
+    }
+    for (word, &last) in field.iter_mut().rev().zip(end.iter().rev()) {
+        *word = last;
+    }
+}
 
 /// A word of a field: an instruction word more often than data.
 pub fn field_word(rng: &mut Rng, fl: u64) -> u64 {

@@ -2,7 +2,7 @@
 
 use crate::case::{Call, Case, Lent};
 use crate::central::{central_record, fill_registers, program_address, MOST_WORDS};
-use crate::instruction::{field_word, loop_word, GO_TO_BEGIN};
+use crate::instruction::fill_field;
 use crate::package::{package_of, WORDS};
 use crate::rng::Rng;
 use crate::values::{result_slice, word_60};
@@ -82,22 +82,6 @@ fn package(rng: &mut Rng, job: &Job) -> [u64; WORDS] {
     package_of(&record)
 }
 
-/// The words of a field: mostly any program, at times one that does not stop.
-fn fill_field(rng: &mut Rng, field: &mut [u64]) {
-    let fl = field.len() as u64;
-    let endless = rng.one_in(6);
-    for word in &mut *field {
-        *word = if endless {
-            loop_word(rng)
-        } else {
-            field_word(rng, fl)
-        };
-    }
-    if let Some(last) = field.last_mut().filter(|_| endless) {
-        *last = GO_TO_BEGIN;
-    }
-}
-
 /// Memory that holds the jobs, and the addresses of their packages.
 fn jobs_in_memory(rng: &mut Rng, count: usize) -> (Vec<u64>, Vec<u64>) {
     let (mut jobs, end) = place_jobs(rng, count);
@@ -130,10 +114,10 @@ fn turns(rng: &mut Rng, few: u64) -> u64 {
 /// The run of one program.
 pub fn program_case(rng: &mut Rng) -> Case {
     let (memory, addresses) = jobs_in_memory(rng, 1);
-    let turns = if rng.one_in(400) {
-        MOST_TURNS - rng.below(2)
-    } else {
-        turns(rng, 30)
+    let turns = match rng.below(100) {
+        0 => MOST_TURNS - rng.below(2),
+        1..=12 => rng.below(2000),
+        _ => turns(rng, 30),
     };
     let call = Call::RunProgram {
         address: addresses[0],

@@ -9,7 +9,7 @@ use tozhenab::layout::{CLOCK, FL, MARK, P, PROCESSORS, PROCESSOR_P, PROCESSOR_ST
 type Condition = (&'static str, fn(&Seen) -> bool);
 
 /// A name begins with the refusal that was given, if the condition is one of a refusal.
-pub const CONDITIONS: [Condition; 49] = [
+pub const CONDITIONS: [Condition; 50] = [
     ("5: a record of another length", |s| {
         s.number == 5 && s.has_another_length()
     }),
@@ -54,6 +54,10 @@ pub const CONDITIONS: [Condition; 49] = [
     }),
     ("a program that uses up 65,535 turns", |s| {
         s.ran() == Some((65_535, 0))
+    }),
+    ("a program that stops after 100 turns", |s| {
+        s.ran()
+            .is_some_and(|(turns, stop)| turns > 100 && stop != 0)
     }),
     ("a program of 0 turns", |s| s.ran() == Some((0, 0))),
     ("a job run again after its stop", |s| s.ran_after_stop()),
