@@ -92,24 +92,29 @@ const GO_TO_BEGIN: u64 = 0o02 << 54;
 /// B1 = B1 - 1, then 05, which goes to the beginning where B1 is not zero.
 const COUNT_DOWN: u64 = 0o61117_77776_05100_00000;
 
-/// The words of a field: mostly any program, at times a loop that has no end, or one that counts
-/// B1 down and goes on to a last word.
-pub fn fill_field(rng: &mut Rng, field: &mut [u64]) {
-    let fl = field.len() as u64;
-    let end = match rng.below(8) {
-        0 => &[GO_TO_BEGIN][..],
-        1 => &[COUNT_DOWN, field_word(rng, fl)],
-        _ => &[],
+/// Fills a field with a loop that has no end, or one that counts B1 down and goes on to a last word.
+pub fn fill_loop(rng: &mut Rng, field: &mut [u64]) {
+    let end = if rng.one_in(2) {
+        &[GO_TO_BEGIN][..]
+    } else {
+        &[COUNT_DOWN, field_word(rng, field.len() as u64)]
     };
     for word in &mut *field {
-        *word = if end.is_empty() {
-            field_word(rng, fl)
-        } else {
-            loop_word(rng)
-        };
+        *word = loop_word(rng);
     }
     for (word, &last) in field.iter_mut().rev().zip(end.iter().rev()) {
         *word = last;
+    }
+}
+
+/// Fills a field: mostly with any program, at times with a loop.
+pub fn fill_field(rng: &mut Rng, field: &mut [u64]) {
+    if rng.one_in(4) {
+        return fill_loop(rng, field);
+    }
+    let fl = field.len() as u64;
+    for word in field {
+        *word = field_word(rng, fl);
     }
 }
 

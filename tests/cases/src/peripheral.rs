@@ -3,6 +3,7 @@
 use crate::case::{Call, Case, Lent};
 use crate::central::{central_record, memory, memory_length, write_package};
 use crate::device::channel;
+use crate::instruction::fill_loop;
 use crate::package::HIGH;
 use crate::rng::Rng;
 use crate::values::{result_slice, value_12, value_18, ONES_12};
@@ -166,6 +167,16 @@ fn write_programs(rng: &mut Rng, lent: &mut Lent) {
     }
 }
 
+/// Has the central processor run a loop in its field, where that is not too long to be filled.
+fn write_central_loop(rng: &mut Rng, lent: &mut Lent) {
+    let (ra, fl) = (lent.record[RA], lent.record[FL]);
+    if (1..=256).contains(&fl) {
+        fill_loop(rng, &mut lent.memory[ra as usize..(ra + fl) as usize]);
+        lent.record[P] = rng.below(fl);
+        lent.record[STOP] = 0;
+    }
+}
+
 /// Stops every processor, or all but one.
 fn stop_most(rng: &mut Rng, record: &mut [u64]) {
     record[STOP] = rng.between(1, 5);
@@ -181,13 +192,15 @@ fn stop_most(rng: &mut Rng, record: &mut [u64]) {
 pub fn run_case(rng: &mut Rng) -> Case {
     let count = processor_count(rng);
     let mut lent = machine_lent(rng, count);
+    match rng.below(8) {
+        0..=2 => write_central_loop(rng, &mut lent),
+        // The central processor stops in its first turn.
+        3 => lent.record[P] = lent.record[RA] + lent.record[FL],
+        _ => {}
+    }
     write_programs(rng, &mut lent);
     if rng.one_in(16) {
         stop_most(rng, &mut lent.record);
-    }
-    if rng.one_in(8) {
-        // The central processor stops in its first turn.
-        lent.record[P] = lent.record[RA] + lent.record[FL];
     }
     let rounds = match rng.below(256) {
         0 => 65_535 - rng.below(2),

@@ -9,7 +9,7 @@ use tozhenab::layout::{CLOCK, FL, MARK, P, PROCESSORS, PROCESSOR_P, PROCESSOR_ST
 type Condition = (&'static str, fn(&Seen) -> bool);
 
 /// A name begins with the refusal that was given, if the condition is one of a refusal.
-pub const CONDITIONS: [Condition; 50] = [
+pub const CONDITIONS: [Condition; 51] = [
     ("5: a record of another length", |s| {
         s.number == 5 && s.has_another_length()
     }),
@@ -128,6 +128,10 @@ pub const CONDITIONS: [Condition; 50] = [
         s.rounds()
             .is_some_and(|(made, asked)| made == asked && asked > 1)
     }),
+    (
+        "a run of 20 rounds with the central processor running",
+        |s| s.rounds().is_some_and(|(made, _)| made >= 20) && s.after.record[STOP] == 0,
+    ),
     ("a run that ends early", |s| {
         s.rounds()
             .is_some_and(|(made, asked)| 0 < made && made < asked)
