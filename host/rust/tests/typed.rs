@@ -1,0 +1,154 @@
+//! The calls over records with named fields: one that is carried out and one that is refused each.
+
+use tozhenab::{CentralRecord, Channel, MachineRecord, Ran, Refusal, Stint, Taken};
+
+/// X6 = 5, A6 = 3, which stores X6 at 3.
+const STORE: u64 = 0o71600000055160000003;
+
+/// The worked example of document 01.
+fn memory() -> Vec<u64> {
+    let mut memory = vec![0; 0o100];
+    memory[1] = 0o20 << 36;
+    memory[2] = 4 << 36;
+    memory[0o20] = STORE;
+    memory
+}
+
+/// The record that the package of the worked example holds.
+fn record() -> CentralRecord {
+    CentralRecord {
+        ra: 0o20,
+        fl: 4,
+        ..CentralRecord::default()
+    }
+}
+
+#[test]
+fn a_central_turn() {
+    let (mut lent, mut central) = (memory(), record());
+    tozhenab::central_turn(&mut lent, &mut central).unwrap();
+    assert_eq!((central.p, central.a[6], central.x[6]), (1, 3, 5));
+    assert_eq!(lent[0o23], 5);
+    tozhenab::central_turn(&mut lent, &mut central).unwrap();
+    assert_eq!((central.p, central.stop), (1, 1));
+    central.b[0] = 1;
+    let before = central;
+    assert_eq!(
+        tozhenab::central_turn(&mut lent, &mut central),
+        Err(Refusal::RecordValue)
+    );
+    assert_eq!(central, before);
+}
+
+#[test]
+fn an_exchange() {
+    let (mut lent, mut central) = (memory(), CentralRecord::default());
+    central.stop = 5;
+    tozhenab::exchange(&mut lent, &mut central, 0).unwrap();
+    assert_eq!(central, record());
+    assert_eq!(lent[..0o20], [0; 0o20]);
+    assert_eq!(
+        tozhenab::exchange(&mut lent, &mut central, 0o61),
+        Err(Refusal::PackagePastEnd)
+    );
+    assert_eq!(central, record());
+}
+
+#[test]
+fn a_program() {
+    let (mut lent, central) = (memory(), CentralRecord::default());
+    let ran = tozhenab::run_program(&mut lent, &central, 0, 5);
+    assert_eq!(ran, Ok(Ran { turns: 2, stop: 1 }));
+    assert_eq!(lent[0o23], 5);
+    let ran = tozhenab::run_program(&mut lent, &central, 0, 65_536);
+    assert_eq!(ran, Err(Refusal::TooManyTurns));
+}
+
+#[test]
+fn a_schedule() {
+    let (mut lent, central) = (memory(), CentralRecord::default());
+    let stints = [1, 0, 4].map(|turns| Stint { job: 0, turns });
+    let ran = tozhenab::schedule(&mut lent, &central, &[0], &stints).unwrap();
+    assert_eq!(ran.len(), 3);
+    assert_eq!(ran[0], Ran { turns: 1, stop: 0 });
+    assert_eq!(ran[1], Ran { turns: 0, stop: 0 });
+    assert_eq!(ran[2], Ran { turns: 1, stop: 1 });
+    let stints = [Stint { job: 1, turns: 1 }];
+    assert_eq!(
+        tozhenab::schedule(&mut lent, &central, &[0], &stints),
+        Err(Refusal::UnlistedJob)
+    );
+    assert_eq!(
+        tozhenab::schedule(&mut lent, &central, &[0, 0], &[]),
+        Err(Refusal::SharedWord)
+    );
+}
+
+#[test]
+fn a_peripheral_turn() {
+    let (mut central, mut peripheral) = (memory(), vec![0; 2 * 4096]);
+    let mut machine = MachineRecord::default();
+    peripheral[4096] = 0o1412; // A = 12 octal
+    tozhenab::peripheral_turn(&mut central, &mut peripheral, &mut machine, 1).unwrap();
+    assert_eq!(
+        (machine.processors[1].p, machine.processors[1].a),
+        (1, 0o12)
+    );
+    assert_eq!(
+        tozhenab::peripheral_turn(&mut central, &mut peripheral, &mut machine, 2),
+        Err(Refusal::PeripheralLength)
+    );
+}
+
+#[test]
+fn a_run() {
+    let (mut central, mut peripheral) = (memory(), vec![0; 4096]);
+    let mut machine = MachineRecord {
+        central: record(),
+        ..MachineRecord::default()
+    };
+    peripheral[1] = 0o7100; // a code left out: stop 36
+    assert_eq!(
+        tozhenab::run(&mut central, &mut peripheral, &mut machine, 9),
+        Ok(2)
+    );
+    assert_eq!((machine.central.stop, machine.clock), (1, 2));
+    assert_eq!(machine.processors[0].stop, 36);
+    assert_eq!(
+        tozhenab::run(&mut central, &mut peripheral, &mut machine, 65_536),
+        Err(Refusal::TooManyTurns)
+    );
+}
+
+#[test]
+fn a_device() {
+    let mut channel = Channel::default();
+    assert_eq!(tozhenab::put(&mut channel, 5), Err(Refusal::PutUnmet));
+    assert_eq!(tozhenab::put(&mut channel, 4096), Err(Refusal::DeviceWord));
+    assert_eq!(tozhenab::take(&mut channel), Err(Refusal::TakeUnmet));
+    channel.active = true;
+    tozhenab::put(&mut channel, 5).unwrap();
+    let word = Taken {
+        word: 5,
+        mark: false,
+    };
+    assert_eq!(tozhenab::take(&mut channel), Ok(word));
+    assert!(channel.active && !channel.full);
+    channel = Channel {
+        active: true,
+        full: true,
+        mark: true,
+        word: 6,
+    };
+    let function = Taken {
+        word: 6,
+        mark: true,
+    };
+    assert_eq!(tozhenab::take(&mut channel), Ok(function));
+    assert_eq!(channel, Channel::default());
+    channel.word = 4096;
+    assert_eq!(tozhenab::drop(&mut channel), Err(Refusal::RecordValue));
+    channel.word = 4095;
+    tozhenab::drop(&mut channel).unwrap();
+    assert_eq!(channel, Channel::default());
+}

@@ -1,0 +1,155 @@
+//! Counts of what the cases met, and what has to be met.
+//!
+//! Refusals and stops are counted by what a call gave. Codes are counted in the turns of
+//! `central_turn` and `peripheral_turn` alone, from the state before the turn: the first
+//! instruction of the word at P, and those after it as long as nothing before them can have ended
+//! the turn.
+
+use crate::case::{Call, Case, Lent, NAMES, REFUSALS};
+use std::fmt;
+use tozhenab::layout::{self, PROCESSORS, PROCESSOR_STOP, STOP};
+
+mod codes;
+mod conditions;
+mod facts;
+mod table;
+
+use codes::Codes;
+use conditions::CONDITIONS;
+
+/// Central stops, then peripheral ones.
+const STOPS: [u64; 11] = [1, 2, 3, 4, 5, 31, 32, 33, 34, 35, 36];
+
+/// A case and what came of it.
+pub struct Seen<'a> {
+    pub case: &'a Case,
+    pub number: u64,
+    pub after: &'a Lent,
+}
+
+/// The counts.
+pub struct Coverage {
+    /// By call and number; number 0 is a call that was carried out.
+    numbers: [[u64; 16]; NAMES.len()],
+    /// By call: refused although a later refusal was brought about as well.
+    lowest_first: [u64; NAMES.len()],
+    /// By call and place in `STOPS`.
+    stops: [[u64; STOPS.len()]; NAMES.len()],
+    codes: Codes,
+    /// By place in `CONDITIONS`.
+    conditions: [u64; CONDITIONS.len()],
+}
+
+/// The places in `STOPS` that a call can give.
+fn stops_of(call: usize) -> std::ops::Range<usize> {
+    match NAMES[call] {
+        "central_turn" | "run_program" | "schedule" => 0..5,
+        "peripheral_turn" => 5..11,
+        "run" => 0..11,
+        _ => 0..0,
+    }
+}
+
+impl Coverage {
+    pub fn new() -> Coverage {
+        Coverage {
+            numbers: [[0; 16]; NAMES.len()],
+            lowest_first: [0; NAMES.len()],
+            stops: [[0; STOPS.len()]; NAMES.len()],
+            codes: Codes::new(),
+            conditions: [0; CONDITIONS.len()],
+        }
+    }
+
+    /// Counts one case.
+    pub fn count(&mut self, seen: &Seen) {
+        let call = seen.case.call.place();
+        self.numbers[call][seen.number as usize & 15] += 1;
+        for (count, (_, holds)) in self.conditions.iter_mut().zip(CONDITIONS) {
+            *count += u64::from(holds(seen));
+        }
+        if seen.number == 0 {
+            self.count_stops(seen);
+            self.codes.count(seen);
+        } else if seen.case.faults.iter().any(|&fault| fault > seen.number) {
+            self.lowest_first[call] += 1;
+        }
+    }
+
+    fn count_stops(&mut self, seen: &Seen) {
+        let (before, after) = (&seen.case.lent, seen.after);
+        let mut count = |stop: u64| {
+            if let Some(place) = STOPS.iter().position(|&listed| listed == stop) {
+                self.stops[seen.case.call.place()][place] += 1;
+            }
+        };
+        let mut changed = |at: usize| {
+            if before.record[at] == 0 {
+                count(after.record[at]);
+            }
+        };
+        match &seen.case.call {
+            Call::CentralTurn => changed(STOP),
+            Call::PeripheralTurn { processor } => {
+                changed(layout::processor(*processor as usize) + PROCESSOR_STOP)
+            }
+            Call::Run { .. } => {
+                changed(STOP);
+                (0..PROCESSORS).for_each(|n| changed(layout::processor(n) + PROCESSOR_STOP));
+            }
+            Call::RunProgram { .. } | Call::Schedule { .. } => {
+                let ran = &after.result[..seen.case.call.result_length()];
+                ran.chunks_exact(2).for_each(|pair| count(pair[1]));
+            }
+            _ => {}
+        }
+    }
+
+    /// Everything that has to be met and was not.
+    pub fn missing(&self) -> Vec<String> {
+        let mut missing = Vec::new();
+        self.required(&mut |name, count| {
+            if count == 0 {
+                missing.push(name.to_string());
+            }
+        });
+        missing
+    }
+
+    /// How much was met of what has to be, each thing up to `enough` times.
+    pub fn met(&self, enough: u64) -> u64 {
+        let mut met = 0;
+        self.required(&mut |_, count| met += count.min(enough));
+        met
+    }
+
+    /// Each thing that has to be met, and its count.
+    fn required(&self, see: &mut dyn FnMut(fmt::Arguments, u64)) {
+        for (call, name) in NAMES.iter().enumerate() {
+            for &number in [0].iter().chain(REFUSALS[call]) {
+                let count = self.numbers[call][number as usize];
+                see(format_args!("{name}: number {number}"), count);
+            }
+            for place in stops_of(call) {
+                let stop = STOPS[place];
+                see(format_args!("{name}: stop {stop}"), self.stops[call][place]);
+            }
+            if REFUSALS[call].len() > 1 {
+                see(
+                    format_args!("{name}: two refusals due"),
+                    self.lowest_first[call],
+                );
+            }
+        }
+        for (&count, (name, _)) in self.conditions.iter().zip(CONDITIONS) {
+            see(format_args!("{name}"), count);
+        }
+        self.codes.required(see);
+    }
+}
+
+impl Default for Coverage {
+    fn default() -> Self {
+        Coverage::new()
+    }
+}

@@ -1,0 +1,101 @@
+//! The counts as text.
+
+use super::codes::{branch_name, Codes, WAITING};
+use super::conditions::CONDITIONS;
+use super::{stops_of, Coverage, STOPS};
+use crate::case::{NAMES, REFUSALS};
+use std::fmt;
+
+impl fmt::Display for Coverage {
+    fn fmt(&self, f: &mut fmt::Formatter) -> fmt::Result {
+        self.write_numbers(f)?;
+        self.write_stops(f)?;
+        self.codes.fmt(f)?;
+        writeln!(f, "\nother conditions")?;
+        for (count, (name, _)) in self.conditions.iter().zip(CONDITIONS) {
+            writeln!(f, "{count:>8}  {name}")?;
+        }
+        Ok(())
+    }
+}
+
+impl Coverage {
+    fn write_numbers(&self, f: &mut fmt::Formatter) -> fmt::Result {
+        writeln!(
+            f,
+            "number given (0: carried out; blank: not given by that call; 16: the console's alone)"
+        )?;
+        write!(f, "{:15}", "")?;
+        (0..16).try_for_each(|number| write!(f, "{number:>7}"))?;
+        writeln!(f, "  two due")?;
+        for (call, name) in NAMES.iter().enumerate() {
+            write!(f, "{name:15}")?;
+            for (number, &count) in self.numbers[call].iter().enumerate() {
+                let can = number == 0 || REFUSALS[call].contains(&(number as u64));
+                write_count(f, can, count)?;
+            }
+            writeln!(f, "{:>9}", self.lowest_first[call])?;
+        }
+        Ok(())
+    }
+
+    fn write_stops(&self, f: &mut fmt::Formatter) -> fmt::Result {
+        write!(f, "\n{:15}", "stops")?;
+        STOPS.iter().try_for_each(|stop| write!(f, "{stop:>7}"))?;
+        writeln!(f)?;
+        for (call, name) in NAMES.iter().enumerate() {
+            let can = stops_of(call);
+            if can.is_empty() {
+                continue;
+            }
+            write!(f, "{name:15}")?;
+            for (place, &count) in self.stops[call].iter().enumerate() {
+                write_count(f, can.contains(&place), count)?;
+            }
+            writeln!(f)?;
+        }
+        Ok(())
+    }
+}
+
+/// A count, or a blank where there can be none.
+fn write_count(f: &mut fmt::Formatter, can: bool, count: u64) -> fmt::Result {
+    if can || count > 0 {
+        write!(f, "{count:>7}")
+    } else {
+        write!(f, "{:7}", "")
+    }
+}
+
+impl fmt::Display for Codes {
+    fn fmt(&self, f: &mut fmt::Formatter) -> fmt::Result {
+        write_codes(f, "central codes", &self.central)?;
+        writeln!(f, "{:>8}  01 with i not 0", self.unfit_return)?;
+        writeln!(f, "\nbranches first in their word: went to K, did not")?;
+        for (branch, [went, stayed]) in self.branches.iter().enumerate() {
+            let end = if branch % 4 == 3 { "\n" } else { "" };
+            write!(f, "{:>6}{went:>7}{stayed:>7}{end}", branch_name(branch))?;
+        }
+        write_codes(f, "peripheral codes", &self.peripheral)?;
+        writeln!(f, "\nturns that waited")?;
+        for (code, count) in WAITING.iter().zip(self.waits) {
+            write!(f, "{code:>6o}{count:>7}")?;
+        }
+        writeln!(f)
+    }
+}
+
+/// Counts of 64 codes, a row for each first digit.
+fn write_codes(f: &mut fmt::Formatter, name: &str, counts: &[u64; 64]) -> fmt::Result {
+    write!(f, "\n{name:16}")?;
+    (0..8).try_for_each(|digit| write!(f, "{digit:>7}"))?;
+    writeln!(f)?;
+    for (row, counts) in counts.chunks_exact(8).enumerate() {
+        write!(f, "{row:>16}")?;
+        counts
+            .iter()
+            .try_for_each(|count| write!(f, "{count:>7}"))?;
+        writeln!(f)?;
+    }
+    Ok(())
+}
