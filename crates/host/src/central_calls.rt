@@ -17,8 +17,8 @@ pub extern "C" fn tozhenab_central_turn(memory: &mut [u64], central: &mut [u64])
     let c = central_lent(&*central);
     let a = central_turn(&mut *memory, c);
     let verdict = a.verdict;
-    let after = a.central;
-    keep_central(&mut *central, verdict, after)
+    let turned = a.central;
+    keep_central(&mut *central, verdict, turned)
 }
 
 // An exchange jump at the package with this address.
@@ -30,8 +30,8 @@ pub extern "C" fn tozhenab_exchange(memory: &mut [u64], central: &mut [u64], add
     let c = central_lent(&*central);
     let a = exchange(&mut *memory, c, address);
     let verdict = a.verdict;
-    let after = a.central;
-    keep_central(&mut *central, verdict, after)
+    let exchanged = a.central;
+    keep_central(&mut *central, verdict, exchanged)
 }
 
 // One stint of the program of the package at this address. The result is the turns made and the stop's number, or 0.

@@ -23,8 +23,8 @@ pub extern "C" fn tozhenab_put(channel: &mut [u64], word: u64) -> u64
     let c = channel_lent(&*channel);
     let a = lent_channel::put(c, word);
     let verdict = a.verdict;
-    let after = a.channel;
-    keep_channel(&mut *channel, verdict, after)
+    let filled = a.channel;
+    keep_channel(&mut *channel, verdict, filled)
 }
 
 // Makes the channel inactive and empty.
@@ -35,8 +35,8 @@ pub extern "C" fn tozhenab_drop(channel: &mut [u64]) -> u64
     let c = channel_lent(&*channel);
     let a = lent_channel::drop(c);
     let verdict = a.verdict;
-    let after = a.channel;
-    keep_channel(&mut *channel, verdict, after)
+    let dropped = a.channel;
+    keep_channel(&mut *channel, verdict, dropped)
 }
 
 // Number 5 for a channel's word.

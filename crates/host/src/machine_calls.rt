@@ -22,8 +22,8 @@ pub extern "C" fn tozhenab_peripheral_turn(
     let r = machine_lent(&*machine);
     let a = peripheral_turn(&mut *central, &mut *peripheral, r, processor);
     let verdict = a.verdict;
-    let after = a.machine;
-    keep_machine(&mut *machine, verdict, after)
+    let turned = a.machine;
+    keep_machine(&mut *machine, verdict, turned)
 }
 
 // Up to so many rounds. The result is the rounds made.
