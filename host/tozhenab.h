@@ -118,20 +118,20 @@ uint64_t tozhenab_exchange(uint64_t *memory, size_t memory_length, uint64_t *rec
 
 /*
  * Runs the program of the package at the address: exchanges in, makes up to so many turns on its
- * field, ends early at a stop, exchanges out. record: a central record, which comes back as it was.
+ * field, ends early at a stop, exchanges out. record: a central record, which is only read.
  * result: TOZHENAB_RAN_NUMBERS. Refusals 1, 3, 5, 6 (a short result), 8 to 12.
  */
-uint64_t tozhenab_run_program(uint64_t *memory, size_t memory_length, uint64_t *record,
+uint64_t tozhenab_run_program(uint64_t *memory, size_t memory_length, const uint64_t *record,
                               size_t record_length, uint64_t address, uint64_t turns,
                               uint64_t *result, size_t result_length);
 
 /*
  * Runs 1 to 16 programs in one memory by up to 256 stints, in the order listed. jobs: the addresses
  * of the packages. stint_jobs, stint_turns: the job (from 0) and the turns of each stint; both have
- * one length. record: a central record, which comes back as it was. result: TOZHENAB_RAN_NUMBERS
+ * one length. record: a central record, which is only read. result: TOZHENAB_RAN_NUMBERS
  * for each element of stint_jobs. Refusals 1, 3, 5 to 12.
  */
-uint64_t tozhenab_schedule(uint64_t *memory, size_t memory_length, uint64_t *record,
+uint64_t tozhenab_schedule(uint64_t *memory, size_t memory_length, const uint64_t *record,
                            size_t record_length, const uint64_t *jobs, size_t jobs_length,
                            const uint64_t *stint_jobs, size_t stint_jobs_length,
                            const uint64_t *stint_turns, size_t stint_turns_length,

@@ -69,11 +69,11 @@ pub fn run_program(
     address: u64,
     turns: u64,
 ) -> Result<Ran, Refusal> {
-    let mut numbers: [u64; CENTRAL_NUMBERS] = (*record).into();
+    let numbers: [u64; CENTRAL_NUMBERS] = (*record).into();
     let mut result = [0; 2];
     accepted(flat::run_program(
         memory,
-        &mut numbers,
+        &numbers,
         address,
         turns,
         &mut result,
@@ -91,13 +91,13 @@ pub fn schedule(
     jobs: &[u64],
     stints: &[Stint],
 ) -> Result<Vec<Ran>, Refusal> {
-    let mut numbers: [u64; CENTRAL_NUMBERS] = (*record).into();
+    let numbers: [u64; CENTRAL_NUMBERS] = (*record).into();
     let stint_jobs: Vec<u64> = stints.iter().map(|stint| stint.job).collect();
     let stint_turns: Vec<u64> = stints.iter().map(|stint| stint.turns).collect();
     let mut result = vec![0; 2 * stints.len()];
     accepted(flat::schedule(
         memory,
-        &mut numbers,
+        &numbers,
         jobs,
         &stint_jobs,
         &stint_turns,

@@ -32,7 +32,7 @@ mod archive {
         pub fn tozhenab_run_program(
             memory: *mut u64,
             memory_length: usize,
-            record: *mut u64,
+            record: *const u64,
             record_length: usize,
             address: u64,
             turns: u64,
@@ -42,7 +42,7 @@ mod archive {
         pub fn tozhenab_schedule(
             memory: *mut u64,
             memory_length: usize,
-            record: *mut u64,
+            record: *const u64,
             record_length: usize,
             jobs: *const u64,
             jobs_length: usize,
@@ -115,17 +115,18 @@ pub fn exchange(memory: &mut [u64], record: &mut [u64], address: u64) -> u64 {
 /// made and the stop. Refusals 1, 3, 5, 6, 8 to 12.
 pub fn run_program(
     memory: &mut [u64],
-    record: &mut [u64],
+    record: &[u64],
     address: u64,
     turns: u64,
     result: &mut [u64],
 ) -> u64 {
-    // SAFETY: the pointers are those of exclusive slices, each with its length.
+    // SAFETY: the pointers are those of slices, each with its length; those written to are
+    // exclusive.
     unsafe {
         archive::tozhenab_run_program(
             memory.as_mut_ptr(),
             memory.len(),
-            record.as_mut_ptr(),
+            record.as_ptr(),
             record.len(),
             address,
             turns,
@@ -139,7 +140,7 @@ pub fn run_program(
 /// is the turns made and the stop of each stint. Refusals 1, 3, 5 to 12.
 pub fn schedule(
     memory: &mut [u64],
-    record: &mut [u64],
+    record: &[u64],
     jobs: &[u64],
     stint_jobs: &[u64],
     stint_turns: &[u64],
@@ -151,7 +152,7 @@ pub fn schedule(
         archive::tozhenab_schedule(
             memory.as_mut_ptr(),
             memory.len(),
-            record.as_mut_ptr(),
+            record.as_ptr(),
             record.len(),
             jobs.as_ptr(),
             jobs.len(),

@@ -167,12 +167,12 @@ fn assert_result<const N: usize>(
 
 #[test]
 fn what_stands_past_a_result_is_kept() {
-    let mut record = [0; CENTRAL_NUMBERS];
+    let record = [0; CENTRAL_NUMBERS];
     assert_result(0, [2, 1], |out| {
-        flat::run_program(&mut memory(), &mut record, 0, 5, out)
+        flat::run_program(&mut memory(), &record, 0, 5, out)
     });
     assert_result(0, [1, 0, 1, 1], |out| {
-        flat::schedule(&mut memory(), &mut record, &[0], &[0, 0], &[1, 4], out)
+        flat::schedule(&mut memory(), &record, &[0], &[0, 0], &[1, 4], out)
     });
     assert_result(0, [0o1234, 1], |out| {
         flat::take(&mut [1, 1, 1, 0o1234], out)
@@ -185,12 +185,12 @@ fn what_stands_past_a_result_is_kept() {
 
 #[test]
 fn a_result_is_0_after_a_refusal() {
-    let mut record = [0; CENTRAL_NUMBERS];
+    let record = [0; CENTRAL_NUMBERS];
     assert_result(9, [0, 0], |out| {
-        flat::run_program(&mut memory(), &mut record, 0o61, 5, out)
+        flat::run_program(&mut memory(), &record, 0o61, 5, out)
     });
     assert_result(6, [0, 0, 0, 0], |out| {
-        flat::schedule(&mut memory(), &mut record, &[0], &[0, 0], &[1], out)
+        flat::schedule(&mut memory(), &record, &[0], &[0, 0], &[1], out)
     });
     assert_result(15, [0, 0], |out| flat::take(&mut [0; CHANNEL_NUMBERS], out));
     let mut machine = [0; MACHINE_NUMBERS];
