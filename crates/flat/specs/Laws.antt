@@ -2,3 +2,5 @@
 pub mod Read
 pub mod Write
 pub mod Lent
+pub mod Back
+pub mod Results

@@ -3,4 +3,7 @@
 pub mod Layout
 -- which slices are records
 pub mod Lent
+-- the number of a call, what it hands back, and its results
+pub mod Back
+pub mod Results
 pub mod Laws

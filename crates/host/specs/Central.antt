@@ -9,9 +9,9 @@ use Rattle.outcome.specs.Numbers.{verdictNumber}
 use Rattle.exchange.specs.Record.{hostVerdict}
 use Rattle.single.specs.Host.{Answered, turnAnswer, exchangeAnswer}
 use Rattle.single.specs.Program.{RunAnswered, runAnswer}
+use Rattle.flat.specs.Back.{kept, shortNumber}
 use Rattle.flat.specs.Layout.{centralNumbers}
 use Rattle.flat.specs.Lent.{centralLent}
-use Rattle.host.specs.Back.{kept, shortNumber}
 
 -- the number, the memory and the record
 pub record CentralLeft : Type 0 where

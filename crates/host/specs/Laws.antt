@@ -1,5 +1,4 @@
 -- Consequences of the definitions. Assumes nothing.
-pub mod Back
 pub mod Central
 pub mod Schedule
 pub mod Machine

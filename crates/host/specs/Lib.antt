@@ -1,7 +1,5 @@
 -- The definitions that the contracts of `host` cite: each is the answer of an entry point of SINGLE, SHARED or WHOLE, with records as flat
 -- numbers. A reader has to believe these; `Laws` is proved from them.
--- the number of a call, and what it hands back
-pub mod Back
 -- turn, exchange jump, run of one program
 pub mod Central
 pub mod Schedule

@@ -8,9 +8,9 @@ use lib.Seq.{sets}
 use Rattle.outcome.specs.Numbers.{verdictNumber}
 use Rattle.machine_record.specs.Verdict.{machineVerdict}
 use Rattle.whole.specs.Call.{TurnAnswered, turnAnswer, RunAnswered, runAnswer}
+use Rattle.flat.specs.Back.{kept, shortNumber}
 use Rattle.flat.specs.Layout.{machineNumbers}
 use Rattle.flat.specs.Lent.{machineLent}
-use Rattle.host.specs.Back.{kept, shortNumber}
 
 -- the number, both memories and the record
 pub record MachineLeft : Type 0 where

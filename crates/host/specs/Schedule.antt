@@ -1,21 +1,18 @@
 -- The call that runs a schedule, on a record of 29 numbers. Assumes nothing.
 use mathlib.Core.Bool.{cond}
-use mathlib.Core.List.{List, [], _∷_}
+use mathlib.Core.List.{List}
 use Prim.Native.Nat.{ℕ, _*_}
 use lib.Dec.{leb}
-use lib.ListN.{length, getD}
+use lib.ListN.{length}
 use lib.Seq.{sets}
 use Rattle.outcome.specs.Numbers.{verdictNumber}
 use Rattle.exchange.specs.Record.{hostVerdict}
 use Rattle.shared.specs.Answer.{scheduleOf, Answered, scheduleAnswer}
+use Rattle.flat.specs.Back.{shortNumber}
 use Rattle.flat.specs.Layout.{rows}
 use Rattle.flat.specs.Lent.{centralLent}
-use Rattle.host.specs.Back.{shortNumber}
+use Rattle.flat.specs.Results.{stintRow}
 use Rattle.host.specs.Central.{ResultLeft, resultLeft}
-
--- the turns made and the stop of stint i
-abbrev pub stintRow : List ℕ → List ℕ → ℕ → List ℕ
-stintRow turns stops i = getD turns i 0 ∷ getD stops i 0 ∷ []
 
 -- those of n stints from the first entry on; after a refusal "counts are 0"
 abbrev pub scheduleLeft : List ℕ → ℕ → Answered → ResultLeft

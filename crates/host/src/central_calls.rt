@@ -1,9 +1,9 @@
 // The calls on the central processor: one turn, one exchange jump, the run of one program.
 ghost use mathlib.Core.Path.{_≡_};
 ghost use Rattle.host.specs.Central.{centralLeft, centralTurn, centralExchange, resultLeft, programRun};
-use super::keep::keep_central;
-use super::keep::short_number;
 use exchange::record::host_verdict;
+use flat::keep::keep_central;
+use flat::keep::short_number;
 use flat::read::central_lent;
 use single::host::central_turn;
 use single::host::exchange;

@@ -1,17 +1,13 @@
 // The device calls, on the four numbers of a channel.
 ghost use mathlib.Core.Path.{_≡_};
-ghost use lib.ListN.{length};
-ghost use Rattle.channel.specs.declared.device.Taken.the-variants as Take;
-ghost use Rattle.host.specs.Back.{back};
-ghost use Rattle.host.specs.Device.{channelVerdict, channelPut, takeLeft, takeBy, channelTake, channelDrop, TakeStorable};
-use super::keep::keep_channel;
-use super::keep::short_number;
-use channel::device::TakeAnswer;
-use channel::device::Taken;
+ghost use Rattle.flat.specs.Back.{back};
+ghost use Rattle.flat.specs.Results.{takeLeft};
+ghost use Rattle.host.specs.Device.{channelVerdict, channelPut, channelTake, channelDrop};
 use channel::record::Channel;
+use flat::keep::keep_channel;
+use flat::keep::short_number;
 use flat::read::channel_lent;
-use flat::write::store_channel;
-use machine::numbers::flag;
+use flat::results::keep_taken;
 use outcome::refusal::Refusal;
 use outcome::refusal::Verdict;
 
@@ -47,28 +43,6 @@ fn channel_verdict(c: Channel) -> Verdict
         return Verdict::Refused(Refusal::RecordValue);
     }
     Verdict::Accepted
-}
-
-// Stores what a take gave: the word and the mark, and the channel after it; after a refusal 0 twice.
-fn keep_taken(channel: &mut [u64], result: &mut [u64], a: TakeAnswer) -> u64
-    requires { ⌜ TakeStorable (now channel) (now result) a ⌝ }
-    ensures { λ n. ⌜ takeLeft n (now (channel .exit)) (now (result .exit)) ≡ takeBy (now (channel .entry)) (now (result .entry)) a ⌝ }
-{
-    let taken = a.verdict;
-    let after = a.channel;
-    match taken {
-        Taken::Word(word, mark) => {
-            store_channel(&mut *channel, after);
-            result[0] = word;
-            result[1] = flag(mark);
-            0
-        }
-        Taken::Refused(r) => {
-            result[0] = 0;
-            result[1] = 0;
-            r.number()
-        }
-    }
 }
 
 // Takes the word or function of the channel. The result is the word, and 1 for a function.

@@ -2,6 +2,5 @@
 // number of its refusal, or 0. Records are flat numbers, as `flat` lays them out.
 pub mod central_calls;
 pub mod device_calls;
-mod keep;
 pub mod machine_calls;
 pub mod schedule_call;

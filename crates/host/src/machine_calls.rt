@@ -1,8 +1,8 @@
 // The calls on the whole machine: a turn of one peripheral processor, and a run of rounds.
 ghost use mathlib.Core.Path.{_≡_};
 ghost use Rattle.host.specs.Machine.{machineLeft, processorTurn, runLeft, machineRun};
-use super::keep::keep_machine;
-use super::keep::short_number;
+use flat::keep::keep_machine;
+use flat::keep::short_number;
 use flat::read::machine_lent;
 use machine_record::verdict::machine_verdict;
 use whole::call::peripheral_turn;

@@ -19,7 +19,7 @@ use Rattle.single.specs.declared.program.RunAnswer.{RunAnswer}
 use Rattle.flat.specs.Layout.{centralNumbers}
 use Rattle.flat.specs.Lent.{centralLent}
 use Rattle.flat.specs.Laws.Lent.{central-length}
-use Rattle.host.specs.Back.{Back, back, backBy, shortNumber}
+use Rattle.flat.specs.Back.{Back, back, backBy, shortNumber}
 use Rattle.host.specs.Central.{centralLeft, centralLeftBy, centralTurn, centralExchange, resultLeft, programLeft, programRun}
 
 verdict-of : (v : Verdict) (given after : Machine) → answerBy v given after .answer .verdict ≡ v

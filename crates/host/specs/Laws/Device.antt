@@ -1,15 +1,12 @@
 -- The device calls by the results of their parts: what an accepted one stores, it stores into the four numbers of a channel. Assumes nothing.
 use mathlib.Core.Bool.{Bool, true, false, not, _&&_, cond}
-use mathlib.Core.List.{List, [], _∷_}
+use mathlib.Core.List.{List}
 use mathlib.Core.Path.{_≡_, refl, sym, ap, _∙_}
 use Prim.Native.Nat.{ℕ, _≤_, _<_}
 use native.Mathlib.Omega.{arith}
 use borrow.Author.Tests.{le-leb, lt-leb}
 use lib.Dec.{ltb}
 use lib.ListN.{length}
-use lib.Seq.{sets}
-use Rattle.outcome.specs.Numbers.{refusalNumber}
-use Rattle.outcome.specs.declared.refusal.Refusal.{Refusal}
 use Rattle.outcome.specs.declared.refusal.Refusal.the-variants as Because
 use Rattle.outcome.specs.declared.refusal.Verdict.{Verdict}
 use Rattle.outcome.specs.declared.refusal.Verdict.the-variants as Call
@@ -18,12 +15,12 @@ use Rattle.channel.specs.declared.device.DeviceAnswer.{DeviceAnswer}
 use Rattle.channel.specs.declared.device.TakeAnswer.{TakeAnswer}
 use Rattle.channel.specs.declared.device.Taken.the-variants as Take
 use Rattle.channel.specs.declared.record.Channel.{Channel}
-use Rattle.machine.specs.Numbers.{flag}
+use Rattle.flat.specs.Back.{Back, backBy, shortNumber}
 use Rattle.flat.specs.Layout.{channelNumbers}
 use Rattle.flat.specs.Lent.{channelLent}
+use Rattle.flat.specs.Results.{TakeLeft, takeLeft, takeBy, TakeStorable}
 use Rattle.flat.specs.Laws.Lent.{channel-length}
-use Rattle.host.specs.Back.{Back, backBy, shortNumber}
-use Rattle.host.specs.Device.{channelLeftBy, channelPut, channelDrop, TakeLeft, takeLeft, takeBy, channelVerdict, channelTake, TakeStorable}
+use Rattle.host.specs.Device.{channelLeftBy, channelPut, channelDrop, channelVerdict, channelTake}
 
 -- a test whose refusal is first
 first-test : (t : Bool) (c : Channel) (a : DeviceAnswer)
@@ -77,13 +74,3 @@ module _ (r : List ℕ) (k : Channel) (given : k ≡ channelLent r) where
         → takeLeft number r out ≡ channelTake r out
     unfolding channelTake
     take-short number v none e h = rw (lt-leb 2 (length out) none, ← given, ← e, h)
-
--- what a take stores
-module _ (c d out : List ℕ) (a : TakeAnswer) where
-  pub taken-is : (w v : ℕ) (mark : Bool) → a .verdict ≡ Take.Word w mark → d ≡ channelNumbers (a .channel) → v ≡ flag mark
-      → takeLeft 0 d (sets out 0 (w ∷ v ∷ [])) ≡ takeBy c out a
-  taken-is w v mark e h f = rw (e, h, f)
-
-  pub taken-refused : (r : Refusal) (n : ℕ) → a .verdict ≡ Take.Refused r → n ≡ refusalNumber r
-      → takeLeft n c (sets out 0 (0 ∷ 0 ∷ [])) ≡ takeBy c out a
-  taken-refused r n e h = rw (e, h)

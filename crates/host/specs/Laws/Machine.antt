@@ -17,7 +17,7 @@ use Rattle.whole.specs.declared.call.RunAnswer.{RunAnswer}
 use Rattle.flat.specs.Layout.{machineNumbers}
 use Rattle.flat.specs.Lent.{machineLent}
 use Rattle.flat.specs.Laws.Lent.{machine-length}
-use Rattle.host.specs.Back.{Back, back, backBy, shortNumber}
+use Rattle.flat.specs.Back.{Back, back, backBy, shortNumber}
 use Rattle.host.specs.Machine.{machineLeft, machineLeftBy, processorTurn, runLeft, runLeftBy, machineRun}
 
 turn-verdict : (v : Verdict) (c m : List ℕ) (r : MachineRecord) (o : Left) → turnAnswerBy v c m r o .answer .verdict ≡ v

@@ -1,30 +1,21 @@
 -- The call that runs a schedule by the results of its parts. Assumes nothing.
-use mathlib.Core.List.{List, [], _∷_}
+use mathlib.Core.List.{List}
 use mathlib.Core.Path.{_≡_, ap, _∙_}
-use Prim.Native.Nat.{ℕ, suc, _+_, _*_, _≤_, _<_}
-use native.Mathlib.Omega.{arith}
+use Prim.Native.Nat.{ℕ, _*_, _≤_, _<_}
 use borrow.Author.Tests.{le-leb, lt-leb}
-use lib.ListN.{length, set}
-use lib.Seq.{sets}
+use lib.ListN.{length}
 use Rattle.outcome.specs.Numbers.{verdictNumber}
 use Rattle.outcome.specs.declared.refusal.Verdict.{Verdict}
 use Rattle.exchange.specs.Record.{hostVerdict}
 use Rattle.exchange.specs.declared.record.Central.{Central}
 use Rattle.shared.specs.Answer.{answerTo, scheduleOf, scheduleAnswer}
 use Rattle.shared.specs.declared.call.ScheduleAnswer.{ScheduleAnswer}
+use Rattle.flat.specs.Back.{shortNumber}
 use Rattle.flat.specs.Layout.{Stores, rows}
 use Rattle.flat.specs.Lent.{centralLent}
-use Rattle.host.specs.Back.{shortNumber}
+use Rattle.flat.specs.Results.{stintRow}
 use Rattle.host.specs.Central.{resultLeft}
-use Rattle.host.specs.Schedule.{stintRow, scheduleLeft, scheduleRun}
-
--- one pair of the result, as code stores it
-pub pair-stored : (l : List ℕ) (i : ℕ) {v w a b : ℕ} → v ≡ a → w ≡ b
-    → Stores l (0 + 2 * i) (a ∷ b ∷ []) (set (set l (2 * i) v) (2 * i + 1) w)
-pair-stored l i e h =
-    let z : 0 + 2 * i ≡ 2 * i = omega arith in
-    let s : 2 * i + 1 ≡ suc (2 * i) = omega arith in
-    record { is = rw (e, h, z, s) }
+use Rattle.host.specs.Schedule.{scheduleLeft, scheduleRun}
 
 -- the answer of the entry point, whose result has room or has none
 module _ (m c jobs js ts out : List ℕ) (k : Central) (given : k ≡ centralLent c) (number : ℕ) where

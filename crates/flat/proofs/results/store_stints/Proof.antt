@@ -1,14 +1,14 @@
--- `host::schedule_call::store_stints` meets its contract. Assumes nothing.
+-- `flat::results::store_stints` meets its contract. Assumes nothing.
 use mathlib.Core.Path.{refl}
 use Prim.Native.Nat.{_-_}
 use native.Mathlib.Omega.{arith}
 use borrow.Author.Needs.{needs}
 use lib.ListN.{length-set}
 use Rattle.flat.specs.Laws.Write.{Stored, none-stored, length-stored, one-stored, all-stored}
-use Rattle.host.specs.Laws.Schedule.{pair-stored}
-use Rattle.host.specs.Schedule.{stintRow}
-use Rattle.host.proofs.schedule_call.store_stints.Statement.{statement}
-use Rattle.host.proofs.schedule_call.store_stints.Tie as tie
+use Rattle.flat.specs.Laws.Results.{pair-stored}
+use Rattle.flat.specs.Results.{stintRow}
+use Rattle.flat.proofs.results.store_stints.Statement.{statement}
+use Rattle.flat.proofs.results.store_stints.Tie as tie
 
 abbrev Inv-loop : tie.InvT-loop
 Inv-loop result₀ turns stops n i₀ result i = Stored 0 2 (stintRow turns stops) n result₀ result i

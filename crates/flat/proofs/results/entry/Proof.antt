@@ -1,9 +1,9 @@
--- `host::schedule_call::entry` meets its contract. Assumes nothing.
+-- `flat::results::entry` meets its contract. Assumes nothing.
 use mathlib.Core.Path.{sym}
 use borrow.Author.Needs.{needs}
 use lib.ListN.{List·getD-eq-default}
-use Rattle.host.proofs.schedule_call.entry.Statement.{statement}
-use Rattle.host.proofs.schedule_call.entry.Tie as tie
+use Rattle.flat.proofs.results.entry.Statement.{statement}
+use Rattle.flat.proofs.results.entry.Tie as tie
 
 mul-result : tie.Need-mul-result
 mul-result c = search needs

@@ -2,18 +2,18 @@
 ghost use mathlib.Core.Path.{_≡_};
 ghost use lib.ListN.{length};
 ghost use Rattle.outcome.specs.declared.refusal.Verdict.the-variants as Call;
 ghost use Rattle.flat.specs.Layout.{centralNumbers, channelNumbers, machineNumbers};
-ghost use Rattle.host.specs.Back.{back, backBy, shortNumber};
+ghost use Rattle.flat.specs.Back.{back, backBy, shortNumber};
+use super::write::store_central;
+use super::write::store_channel;
+use super::write::store_machine;
 use channel::record::Channel;
 use exchange::record::Central;
-use flat::write::store_central;
-use flat::write::store_channel;
-use flat::write::store_machine;
 use machine_record::record::MachineRecord;
 use outcome::refusal::Refusal;
 use outcome::refusal::Verdict;
 
-pub(crate) fn keep_central(given: &mut [u64], v: Verdict, c: Central) -> u64
+pub fn keep_central(given: &mut [u64], v: Verdict, c: Central) -> u64
     requires { ⌜ (v ≡ Call.Accepted → length (now given) ≡ 29) ⌝ }
     ensures { λ n. ⌜ back n (now (given .exit)) ≡ backBy v (centralNumbers c) (now (given .entry)) ⌝ }
 {
@@ -26,7 +26,7 @@ pub(crate) fn keep_central(given: &mut [u64], v: Verdict, c: Central) -> u64
     }
 }
 
-pub(crate) fn keep_machine(given: &mut [u64], v: Verdict, m: MachineRecord) -> u64
+pub fn keep_machine(given: &mut [u64], v: Verdict, m: MachineRecord) -> u64
     requires { ⌜ (v ≡ Call.Accepted → length (now given) ≡ 108) ⌝ }
     ensures { λ n. ⌜ back n (now (given .exit)) ≡ backBy v (machineNumbers m) (now (given .entry)) ⌝ }
 {
@@ -39,7 +39,7 @@ pub(crate) fn keep_machine(given: &mut [u64], v: Verdict, m: MachineRecord) -> u
     }
 }
 
-pub(crate) fn keep_channel(given: &mut [u64], v: Verdict, c: Channel) -> u64
+pub fn keep_channel(given: &mut [u64], v: Verdict, c: Channel) -> u64
     requires { ⌜ (v ≡ Call.Accepted → length (now given) ≡ 4) ⌝ }
     ensures { λ n. ⌜ back n (now (given .exit)) ≡ backBy v (channelNumbers c) (now (given .entry)) ⌝ }
 {
@@ -53,7 +53,7 @@ pub(crate) fn keep_channel(given: &mut [u64], v: Verdict, c: Channel) -> u64
 }
 
 // The number where the result slice is too short: v is the verdict by 1 to 5.
-pub(crate) fn short_number(v: Verdict) -> u64
+pub fn short_number(v: Verdict) -> u64
     ensures { λ n. ⌜ n ≡ shortNumber v ⌝ }
 {
     match v {

@@ -1,8 +1,8 @@
--- `host::device_calls::keep_taken` meets its contract. Assumes nothing.
+-- `flat::results::keep_taken` meets its contract. Assumes nothing.
 use borrow.Author.Needs.{needs}
-use Rattle.host.specs.Laws.Device.{taken-is, taken-refused}
-use Rattle.host.proofs.device_calls.keep_taken.Statement.{statement}
-use Rattle.host.proofs.device_calls.keep_taken.Tie as tie
+use Rattle.flat.specs.Laws.Results.{taken-is, taken-refused}
+use Rattle.flat.proofs.results.keep_taken.Statement.{statement}
+use Rattle.flat.proofs.results.keep_taken.Tie as tie
 
 enum-known-taken : tie.Need-enum-known-taken
 enum-known-taken c = search needs

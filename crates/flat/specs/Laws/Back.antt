@@ -6,7 +6,7 @@ use Rattle.outcome.specs.Numbers.{refusalNumber}
 use Rattle.outcome.specs.declared.refusal.Refusal.{Refusal}
 use Rattle.outcome.specs.declared.refusal.Verdict.{Verdict}
 use Rattle.outcome.specs.declared.refusal.Verdict.the-variants as Call
-use Rattle.host.specs.Back.{back, backBy}
+use Rattle.flat.specs.Back.{back, backBy}
 
 module _ (v : Verdict) (numbers given : List ℕ) where
   pub kept-accepted : (after : List ℕ) → v ≡ Call.Accepted → after ≡ numbers → back 0 after ≡ backBy v numbers given
