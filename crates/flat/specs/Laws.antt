@@ -4,3 +4,4 @@ pub mod Write
 pub mod Lent
 pub mod Back
 pub mod Results
+pub mod Again
