@@ -44,18 +44,22 @@ nothingFed = feeding [] noLine
 abbrev pub heldBy : Reader → List ℕ → Lists → Feeding
 heldBy r m l = feeding (take (r .length) (r .line)) (held (r .progress) m l)
 
--- the lent memory and lists have their room, and the reader's counts are within it
+-- the lent memory and lists have their room
 abbrev pub hasRoom : List ℕ → Lists → Bool
 hasRoom m l =
     eqb (length m) 0o10000 && (eqb (length (l .jobs)) 17 && (eqb (length (l .stintJobs)) 257 && eqb (length (l .stintTurns)) 257))
 
+-- the reader's counts are within it
 abbrev pub isReady : Reader → Bool
 isReady r =
     leb (r .progress .words) 0o10000 && (leb (r .progress .jobs) 17 && (leb (r .progress .stints) 257 && leb (r .length) 32))
 
+abbrev pub canRead : Reader → List ℕ → Lists → Bool
+canRead r m l = hasRoom m l && isReady r
+
 -- what a reader holds; without room, or with counts past it, it holds an input that is unreadable
 unfoldable pub feedingOf : Reader → List ℕ → Lists → Feeding
-feedingOf r m l = cond (hasRoom m l && isReady r) (heldBy r m l) (feeding [] unreadable)
+feedingOf r m l = cond (canRead r m l) (heldBy r m l) (feeding [] unreadable)
 
 -- the reading at the end of the input
 abbrev pub endOf : Feeding → Reading

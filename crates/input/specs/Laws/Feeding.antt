@@ -1,5 +1,5 @@
 -- What a byte does to a reader, as the code tells its cases apart. Assumes nothing.
-use mathlib.Core.Bool.{Bool, true, false, _&&_, cond, false≢true, and-false}
+use mathlib.Core.Bool.{Bool, true, false, _&&_, cond, false≢true}
 use mathlib.Core.List.{List, [], _∷_, _++_}
 use mathlib.Core.Path.{_≡_, refl, sym, ap, subst, _∙_}
 use Prim.Native.Nat.{ℕ, zero, suc, _+_, _≤_, _<_}
@@ -20,8 +20,8 @@ use Rattle.reading.specs.Laws.Entries.{entry-added, entries-full}
 use Rattle.reading.specs.declared.progress.Part.{Part}
 use Rattle.reading.specs.declared.progress.Part.the-variants as Last
 use Rattle.reading.specs.declared.progress.Progress.{Progress}
-use Rattle.input.specs.Reader.{Feeding, feeding, feedTo, feedAll, atLineStart, heldBy, hasRoom, isReady, feedingOf, endOf, isReadable}
-use Rattle.input.specs.Fed.{ReaderReady, Fed, FedAll}
+use Rattle.input.specs.Reader.{Feeding, feeding, feedTo, feedAll, atLineStart, heldBy, hasRoom, isReady, canRead, feedingOf, endOf, isReadable}
+use Rattle.input.specs.Fed.{ReaderReady, Fed, FedAll, FedAny}
 use Rattle.input.specs.declared.reader.Reader.{Reader}
 
 -- a byte after a line that has begun
@@ -128,15 +128,14 @@ counts-by-test p n e =
       leb-true n 32 (e₃ .1),
     )
 
-pub ready-by-test : (r : Reader) (m : List ℕ) (l : Lists) → hasRoom m l ≡ true → isReady r ≡ true → length (r .line) ≡ 32
-    → ReaderReady r m l
-ready-by-test r m l e f long =
-    let counts = counts-by-test (r .progress) (r .length) f in
-    record { progress = counts .0; room = room-by-test m l e; begun = counts .1; long = long }
+pub ready-by-test : (r : Reader) (m : List ℕ) (l : Lists) → canRead r m l ≡ true → length (r .line) ≡ 32 → ReaderReady r m l
+ready-by-test r m l e long =
+    let tests = both (hasRoom m l) (isReady r) e in
+    let counts = counts-by-test (r .progress) (r .length) (tests .1) in
+    record { progress = counts .0; room = room-by-test m l (tests .0); begun = counts .1; long = long }
 
-pub feeding-ready : (r : Reader) (m : List ℕ) (l : Lists) → ReaderReady r m l → feedingOf r m l ≡ heldBy r m l
-unfolding feedingOf
-feeding-ready r m l k =
+test-by-ready : (r : Reader) (m : List ℕ) (l : Lists) → ReaderReady r m l → canRead r m l ≡ true
+test-by-ready r m l k =
     rw (
       eq-eqb (length m) 4096 (k .room .memory),
       eq-eqb (length (l .jobs)) 17 (k .room .jobs),
@@ -147,6 +146,13 @@ feeding-ready r m l k =
       le-leb (r .progress .stints) 257 (k .progress .stints),
       le-leb (r .length) 32 (k .begun),
     )
+
+held-by : (r : Reader) (m : List ℕ) (l : Lists) → canRead r m l ≡ true → feedingOf r m l ≡ heldBy r m l
+unfolding feedingOf
+held-by r m l e = rw e
+
+pub feeding-ready : (r : Reader) (m : List ℕ) (l : Lists) → ReaderReady r m l → feedingOf r m l ≡ heldBy r m l
+feeding-ready r m l k = held-by r m l (test-by-ready r m l k)
 
 -- once unreadable, always so
 feed-unreadable : (byte : ℕ) → feedTo (feeding [] unreadable) byte ≡ feeding [] unreadable
@@ -164,24 +170,26 @@ unfolding feedingOf
 feeding-refused m l =
     of-cond (λ (f : Feeding). f ≡ feeding [] unreadable) (hasRoom m l && isReady (atLineStart refused)) (λ _. refl) (λ _. refl)
 
-pub feeding-no-room : (r : Reader) (m : List ℕ) (l : Lists) → hasRoom m l ≡ false → feedingOf r m l ≡ feeding [] unreadable
+pub feeding-unread : (r : Reader) (m : List ℕ) (l : Lists) → canRead r m l ≡ false → feedingOf r m l ≡ feeding [] unreadable
 unfolding feedingOf
-feeding-no-room r m l e = rw e
-
-pub feeding-not-ready : (r : Reader) (m : List ℕ) (l : Lists) → isReady r ≡ false → feedingOf r m l ≡ feeding [] unreadable
-unfolding feedingOf
-feeding-not-ready r m l e = rw (e, and-false (hasRoom m l))
+feeding-unread r m l e = rw e
 
 -- what `feed` gives, with its tests met or not
 pub fed-ready : {bytes : List ℕ} {r r′ : Reader} {m m′ : List ℕ} {l l′ : Lists} → ReaderReady r m l → FedAll bytes r m l r′ m′ l′
-    → feedingOf r′ m′ l′ ≡ feedAll (feedingOf r m l) bytes
+    → FedAny bytes r m l r′ m′ l′
 fed-ready {bytes} {r} {r′} {m} {m′} {l} {l′} k f =
-    feeding-ready r′ m′ l′ (f .ready) ∙ f .is ∙ ap (λ (x : Feeding). feedAll x bytes) (sym (feeding-ready r m l k))
+    record {
+      is = feeding-ready r′ m′ l′ (f .ready) ∙ f .is ∙ ap (λ (x : Feeding). feedAll x bytes) (sym (feeding-ready r m l k));
+      unread = λ e. absurd (false≢true (sym e ∙ test-by-ready r m l k));
+    }
 
-pub fed-refused : (bytes : List ℕ) (r r′ : Reader) (m : List ℕ) (l : Lists) → feedingOf r m l ≡ feeding [] unreadable
-    → r′ ≡ atLineStart refused → feedingOf r′ m l ≡ feedAll (feedingOf r m l) bytes
-fed-refused bytes r r′ m l e f =
-    rw (f, e) (feeding-refused m l ∙ sym (unreadable-stays bytes))
+pub fed-unread : {bytes : List ℕ} {r r′ : Reader} {m : List ℕ} {l : Lists} → canRead r m l ≡ false → r′ ≡ atLineStart refused
+    → FedAny bytes r m l r′ m l
+fed-unread {bytes} {r} {r′} {m} {l} e f =
+    record {
+      is = rw (f, feeding-unread r m l e) (feeding-refused m l ∙ sym (unreadable-stays bytes));
+      unread = λ _. (f, refl, refl);
+    }
 
 -- the tests of a complete input
 some-line : (n : ℕ) (line : List ℕ) (x : Reading) → (n ≡ 0 → ⊥) → length line ≡ 32 → isReadable (endOf (feeding (take n line) x)) ≡ false
@@ -230,11 +238,7 @@ readable-end (byte ∷ line) noLine e = absurd (false≢true e)
 readable-end (byte ∷ line) (readable part q) e = absurd (false≢true e)
 readable-end (byte ∷ line) unreadable e = absurd (false≢true e)
 
-held-by : (r : Reader) (m : List ℕ) (l : Lists) → (hasRoom m l && isReady r) ≡ true → feedingOf r m l ≡ heldBy r m l
-unfolding feedingOf
-held-by r m l e = rw e
-
-complete-by : (r : Reader) (m : List ℕ) (l : Lists) (t : Bool) → (hasRoom m l && isReady r) ≡ t
+complete-by : (r : Reader) (m : List ℕ) (l : Lists) (t : Bool) → canRead r m l ≡ t
     → isReadable (endOf (cond t (heldBy r m l) (feeding [] unreadable))) ≡ true → Complete r m l
 complete-by r m l true e f =
     let tests = both (hasRoom m l) (isReady r) e in
@@ -247,4 +251,4 @@ complete-by r m l false e f = absurd (false≢true f)
 
 pub complete : (r : Reader) (m : List ℕ) (l : Lists) → isReadable (endOf (feedingOf r m l)) ≡ true → Complete r m l
 unfolding feedingOf
-complete r m l e = complete-by r m l (hasRoom m l && isReady r) refl e
+complete r m l e = complete-by r m l (canRead r m l) refl e
