@@ -4,18 +4,15 @@ ghost use Rattle.reading.specs.Held.{lists};
 ghost use Rattle.input.specs.Reader.{atLineStart, emptyReader, hasRoom, isReady, canRead, feedingOf, endOf, isReadable};
 ghost use Rattle.input.specs.Fed.{ReaderReady, Fed, FedAll, FedAny};
 use line::form::line_of;
+use reading::progress::JOB_ENTRIES;
 use reading::progress::Part;
 use reading::progress::Progress;
+use reading::progress::STINT_ENTRIES;
 use reading::progress::refuse;
 use reading::rules::apply;
 
-// The lengths that the lent slices have: the most words that an input may ask for, and one entry more than a schedule may have,
-// so that a list that is too long is seen to be so.
+// The length of the lent memory: the most words that an input may ask for.
 pub const MEMORY_WORDS: usize = 0o10000;
-
-pub const JOB_ENTRIES: usize = 17;
-
-pub const STINT_ENTRIES: usize = 257;
 
 // How far the input was read, and the line that has begun: its first bytes, and how many of them there are.
 pub struct Reader {
@@ -161,7 +158,7 @@ fn can_read(
     is_ready(r)
 }
 
-// Reads the next bytes of the input. Without 4096 words, 17 jobs and 257 stints of room, the input is unreadable.
+// Reads the next bytes of the input. With slices of other lengths the input is unreadable.
 pub fn feed(
     r: Reader,
     bytes: &[u8],

@@ -14,7 +14,7 @@ use Rattle.word.specs.Laws.Tests.{both}
 use Rattle.line.specs.Form.{lineOf}
 use Rattle.line.specs.declared.form.Line.{Line}
 use Rattle.reading.specs.Reading.{Request, Reading, noLine, readable, unreadable, lineTo}
-use Rattle.reading.specs.Held.{Lists, readingAt, held, refused, Ready, Room, keep}
+use Rattle.reading.specs.Held.{Lists, readingAt, held, refused, Ready, Room, keep, jobEntries, stintEntries}
 use Rattle.reading.specs.Applied.{Applied}
 use Rattle.reading.specs.Laws.Entries.{entry-added, entries-full}
 use Rattle.reading.specs.declared.progress.Part.{Part}
@@ -105,25 +105,25 @@ module _ {bytes : List ℕ} {i : ℕ} {r₀ : Reader} {m₀ : List ℕ} {l₀ : 
 room-by-test : (m : List ℕ) (l : Lists) → hasRoom m l ≡ true → Room m l
 room-by-test m l e =
     let e₁ = both (eqb (length m) 4096) _ e in
-    let e₂ = both (eqb (length (l .jobs)) 17) _ (e₁ .1) in
-    let e₃ = both (eqb (length (l .stintJobs)) 257) (eqb (length (l .stintTurns)) 257) (e₂ .1) in
+    let e₂ = both (eqb (length (l .jobs)) jobEntries) _ (e₁ .1) in
+    let e₃ = both (eqb (length (l .stintJobs)) stintEntries) (eqb (length (l .stintTurns)) stintEntries) (e₂ .1) in
     record {
       memory = eqb-true (length m) 4096 (e₁ .0);
-      jobs = eqb-true (length (l .jobs)) 17 (e₂ .0);
-      stintJobs = eqb-true (length (l .stintJobs)) 257 (e₃ .0);
-      stintTurns = eqb-true (length (l .stintTurns)) 257 (e₃ .1);
+      jobs = eqb-true (length (l .jobs)) jobEntries (e₂ .0);
+      stintJobs = eqb-true (length (l .stintJobs)) stintEntries (e₃ .0);
+      stintTurns = eqb-true (length (l .stintTurns)) stintEntries (e₃ .1);
     }
 
 counts-by-test : (p : Progress) (n : ℕ)
-    → (leb (p .words) 4096 && (leb (p .jobs) 17 && (leb (p .stints) 257 && leb n 32))) ≡ true → Ready p × (n ≤ 32)
+    → (leb (p .words) 4096 && (leb (p .jobs) jobEntries && (leb (p .stints) stintEntries && leb n 32))) ≡ true → Ready p × (n ≤ 32)
 counts-by-test p n e =
     let e₁ = both (leb (p .words) 4096) _ e in
-    let e₂ = both (leb (p .jobs) 17) _ (e₁ .1) in
-    let e₃ = both (leb (p .stints) 257) (leb n 32) (e₂ .1) in (
+    let e₂ = both (leb (p .jobs) jobEntries) _ (e₁ .1) in
+    let e₃ = both (leb (p .stints) stintEntries) (leb n 32) (e₂ .1) in (
       record {
         words = leb-true (p .words) 4096 (e₁ .0);
-        jobs = leb-true (p .jobs) 17 (e₂ .0);
-        stints = leb-true (p .stints) 257 (e₃ .0);
+        jobs = leb-true (p .jobs) jobEntries (e₂ .0);
+        stints = leb-true (p .stints) stintEntries (e₃ .0);
       },
       leb-true n 32 (e₃ .1),
     )
@@ -138,12 +138,12 @@ test-by-ready : (r : Reader) (m : List ℕ) (l : Lists) → ReaderReady r m l �
 test-by-ready r m l k =
     rw (
       eq-eqb (length m) 4096 (k .room .memory),
-      eq-eqb (length (l .jobs)) 17 (k .room .jobs),
-      eq-eqb (length (l .stintJobs)) 257 (k .room .stintJobs),
-      eq-eqb (length (l .stintTurns)) 257 (k .room .stintTurns),
+      eq-eqb (length (l .jobs)) jobEntries (k .room .jobs),
+      eq-eqb (length (l .stintJobs)) stintEntries (k .room .stintJobs),
+      eq-eqb (length (l .stintTurns)) stintEntries (k .room .stintTurns),
       le-leb (r .progress .words) 4096 (k .progress .words),
-      le-leb (r .progress .jobs) 17 (k .progress .jobs),
-      le-leb (r .progress .stints) 257 (k .progress .stints),
+      le-leb (r .progress .jobs) jobEntries (k .progress .jobs),
+      le-leb (r .progress .stints) stintEntries (k .progress .stints),
       le-leb (r .length) 32 (k .begun),
     )
 
