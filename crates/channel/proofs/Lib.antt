@@ -2,3 +2,4 @@
 pub mod Thin
 pub mod ThinAlone
 pub mod ThinWord
+pub mod DeviceTypes

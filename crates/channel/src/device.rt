@@ -88,7 +88,8 @@ pub fn take_value(c: Channel) -> TakeAnswer
         if c.full {
             let mut emptied = c;
             // Taking a function also makes the channel inactive.
-            emptied.active = !c.mark;
+            let stays = !c.mark;
+            emptied.active = stays;
             emptied.full = false;
             emptied.mark = false;
             emptied.word = 0;
@@ -114,14 +115,15 @@ pub fn drop_value(c: Channel) -> DeviceAnswer
             channel: c,
         };
     }
+    let dropped = Channel {
+        active: false,
+        full: false,
+        mark: false,
+        word: 0,
+    };
     DeviceAnswer {
         verdict: Verdict::Accepted,
-        channel: Channel {
-            active: false,
-            full: false,
-            mark: false,
-            word: 0,
-        },
+        channel: dropped,
     }
 }
 

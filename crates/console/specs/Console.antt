@@ -21,7 +21,7 @@ scheduleIn q =
     record { memory = q .memory; central = zeroRecord; jobs = q .jobs; stintJobs = q .stintJobs; stintTurns = q .stintTurns }
 
 -- "four lines a stint (index, job, turns made, stop or 0), then each nonzero word as address=word, by rising address";
--- "A refusal prints only refused= and its number"
+-- "jobs and stints are numbered from 0"; "A refusal prints only refused= and its number"
 abbrev pub printed : Verdict → Schedule → List ℕ
 printed Call.Accepted s =
     stintsLines 0 (s .stintJobs) (scheduleEnd s .turns) (scheduleEnd s .stops) ++ wordLines 0 (scheduleEnd s .memory)

@@ -24,6 +24,12 @@ use Rattle.console.specs.declared.finish.Output.the-variants.{Bytes, Too
 abbrev pub mostBytes : ℕ
 mostBytes = 204032
 
+-- the bytes that an answer takes up. `TooShort` is no number of document 01: a host that lends less room has not made the call that the
+-- paper speaks of
+abbrev pub bytesIn : Output → ℕ
+bytesIn (Bytes n) = n
+bytesIn TooShort = 0
+
 pub record Written : Type 0 where
   pub answer : Output
   pub out : List ℕ

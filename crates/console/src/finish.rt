@@ -19,7 +19,7 @@ pub enum Output {
     TooShort,
 }
 
-// Answers the input that a reader has read. The longest answer has 256 stints of 93 bytes and 4096 words of 44.
+// Answers the input that a reader has read.
 pub fn finish(
     r: Reader,
     memory: &mut [u64],

@@ -4,11 +4,11 @@ ghost use Rattle.console.specs.Console.{outputOf};
 ghost use Rattle.console.specs.Finish.{written, writtenTo};
 use super::finish::Output;
 use super::finish::finish;
-use input::reader::JOB_ENTRIES;
 use input::reader::MEMORY_WORDS;
-use input::reader::STINT_ENTRIES;
 use input::reader::feed;
 use input::reader::start;
+use reading::progress::JOB_ENTRIES;
+use reading::progress::STINT_ENTRIES;
 
 pub fn answer(input: &[u8], out: &mut [u8]) -> Output
     ensures { λ o. ⌜ written o (now (out .exit)) ≡ writtenTo (outputOf (now (input .entry))) (now (out .entry)) ⌝ }

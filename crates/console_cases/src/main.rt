@@ -4,9 +4,9 @@ mod answer;
 mod cases;
 
 use cases::Case;
-use input::reader::JOB_ENTRIES;
 use input::reader::MEMORY_WORDS;
-use input::reader::STINT_ENTRIES;
+use reading::progress::JOB_ENTRIES;
+use reading::progress::STINT_ENTRIES;
 
 // Answers the inputs that end in the next bytes of the stream.
 fn read_some(

@@ -7,7 +7,9 @@ use lib.ListN.{length}
 use lib.Seq.{sets}
 use Rattle.outcome.specs.Numbers.{verdictNumber}
 use Rattle.machine_record.specs.Verdict.{machineVerdict}
-use Rattle.whole.specs.Call.{TurnAnswered, turnAnswer, RunAnswered, runAnswer}
+use Rattle.whole.specs.Call.{Left, turnAnswer, runAnswer}
+use Rattle.whole.specs.declared.call.TurnAnswer.{TurnAnswer}
+use Rattle.whole.specs.declared.call.RunAnswer.{RunAnswer}
 use Rattle.flat.specs.Back.{kept, shortNumber}
 use Rattle.flat.specs.Layout.{machineNumbers}
 use Rattle.flat.specs.Lent.{machineLent}
@@ -22,10 +24,10 @@ pub record MachineLeft : Type 0 where
 abbrev pub machineLeft : ℕ → List ℕ → List ℕ → List ℕ → MachineLeft
 machineLeft n c m r = record { number = n; central = c; peripheral = m; machine = r }
 
-abbrev pub machineLeftBy : List ℕ → TurnAnswered → MachineLeft
+abbrev pub machineLeftBy : List ℕ → Left TurnAnswer → MachineLeft
 machineLeftBy r a =
-    machineLeft (verdictNumber (a .answer .verdict)) (a .central) (a .peripheral)
-    (kept (a .answer .verdict) (machineNumbers (a .answer .machine)) r)
+    machineLeft (verdictNumber (a .value .verdict)) (a .central) (a .peripheral)
+    (kept (a .value .verdict) (machineNumbers (a .value .machine)) r)
 
 unfoldable pub processorTurn : List ℕ → List ℕ → List ℕ → ℕ → MachineLeft
 processorTurn c m r n = machineLeftBy r (turnAnswer c m (machineLent r) n)
@@ -42,10 +44,10 @@ abbrev pub runLeft : ℕ → List ℕ → List ℕ → List ℕ → List ℕ →
 runLeft n c m r out = record { number = n; central = c; peripheral = m; machine = r; result = out }
 
 -- the rounds made in the first entry; after a refusal "counts are 0"
-abbrev pub runLeftBy : List ℕ → List ℕ → RunAnswered → RunLeft
+abbrev pub runLeftBy : List ℕ → List ℕ → Left RunAnswer → RunLeft
 runLeftBy r out a =
-    runLeft (verdictNumber (a .answer .verdict)) (a .central) (a .peripheral)
-    (kept (a .answer .verdict) (machineNumbers (a .answer .machine)) r) (sets out 0 (a .answer .rounds ∷ []))
+    runLeft (verdictNumber (a .value .verdict)) (a .central) (a .peripheral)
+    (kept (a .value .verdict) (machineNumbers (a .value .machine)) r) (sets out 0 (a .value .rounds ∷ []))
 
 unfoldable pub machineRun : List ℕ → List ℕ → List ℕ → ℕ → List ℕ → RunLeft
 machineRun c m r n out =

@@ -1,10 +1,11 @@
 -- What the functions that read a byte promise. Assumes nothing.
+use mathlib.Core.Bool.{false}
 use mathlib.Core.List.{List}
 use mathlib.Core.Path.{_≡_}
 use Prim.Native.Nat.{ℕ, _≤_}
 use lib.ListN.{length}
-use Rattle.reading.specs.Held.{Lists, Ready, Room}
-use Rattle.input.specs.Reader.{heldBy, feedTo, feedAll}
+use Rattle.reading.specs.Held.{Lists, refused, Ready, Room}
+use Rattle.input.specs.Reader.{heldBy, feedTo, feedAll, atLineStart, canRead, feedingOf}
 use Rattle.input.specs.declared.reader.Reader.{Reader}
 
 -- the reader's counts are within the room of the lent memory and lists, and of the line
@@ -23,3 +24,9 @@ pub record Fed (byte : ℕ) (r : Reader) (m : List ℕ) (l : Lists) (r′ : Read
 pub record FedAll (bytes : List ℕ) (r : Reader) (m : List ℕ) (l : Lists) (r′ : Reader) (m′ : List ℕ) (l′ : Lists) : Type 0 where
   pub is : heldBy r′ m′ l′ ≡ feedAll (heldBy r m l) bytes
   pub ready : ReaderReady r′ m′ l′
+
+-- bytes were given to any reader, with slices of any lengths. Where it cannot read, the reader handed back is that of an
+-- unreadable input, and memory and lists are as they were
+pub record FedAny (bytes : List ℕ) (r : Reader) (m : List ℕ) (l : Lists) (r′ : Reader) (m′ : List ℕ) (l′ : Lists) : Type 0 where
+  pub is : feedingOf r′ m′ l′ ≡ feedAll (feedingOf r m l) bytes
+  pub unread : canRead r m l ≡ false → (r′ ≡ atLineStart refused) × (m′ ≡ m) × (l′ ≡ l)

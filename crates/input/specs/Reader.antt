@@ -6,7 +6,7 @@ use lib.Dec.{eqb, leb}
 use lib.ListN.{length, take, replicate}
 use Rattle.line.specs.Form.{lineOf}
 use Rattle.reading.specs.Reading.{Reading, noLine, readable, unreadable, lineTo, ended}
-use Rattle.reading.specs.Held.{Lists, held, keep}
+use Rattle.reading.specs.Held.{Lists, held, keep, jobEntries, stintEntries}
 use Rattle.reading.specs.declared.progress.Part.the-variants as Last
 use Rattle.reading.specs.declared.progress.Progress.{Progress}
 use Rattle.input.specs.declared.reader.Reader.{Reader}
@@ -44,18 +44,22 @@ nothingFed = feeding [] noLine
 abbrev pub heldBy : Reader → List ℕ → Lists → Feeding
 heldBy r m l = feeding (take (r .length) (r .line)) (held (r .progress) m l)
 
--- the lent memory and lists have their room, and the reader's counts are within it
+-- the lent memory and lists have their room
 abbrev pub hasRoom : List ℕ → Lists → Bool
 hasRoom m l =
-    eqb (length m) 0o10000 && (eqb (length (l .jobs)) 17 && (eqb (length (l .stintJobs)) 257 && eqb (length (l .stintTurns)) 257))
+    eqb (length m) 0o10000 && (eqb (length (l .jobs)) jobEntries && (eqb (length (l .stintJobs)) stintEntries && eqb (length (l .stintTurns)) stintEntries))
 
+-- the reader's counts are within it
 abbrev pub isReady : Reader → Bool
 isReady r =
-    leb (r .progress .words) 0o10000 && (leb (r .progress .jobs) 17 && (leb (r .progress .stints) 257 && leb (r .length) 32))
+    leb (r .progress .words) 0o10000 && (leb (r .progress .jobs) jobEntries && (leb (r .progress .stints) stintEntries && leb (r .length) 32))
+
+abbrev pub canRead : Reader → List ℕ → Lists → Bool
+canRead r m l = hasRoom m l && isReady r
 
 -- what a reader holds; without room, or with counts past it, it holds an input that is unreadable
 unfoldable pub feedingOf : Reader → List ℕ → Lists → Feeding
-feedingOf r m l = cond (hasRoom m l && isReady r) (heldBy r m l) (feeding [] unreadable)
+feedingOf r m l = cond (canRead r m l) (heldBy r m l) (feeding [] unreadable)
 
 -- the reading at the end of the input
 abbrev pub endOf : Feeding → Reading

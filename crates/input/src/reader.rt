@@ -1,21 +1,18 @@
 // Reads an input byte by byte, so that one of any length needs no more than the lent memory.
 ghost use mathlib.Core.Path.{_≡_};
 ghost use Rattle.reading.specs.Held.{lists};
-ghost use Rattle.input.specs.Reader.{atLineStart, emptyReader, hasRoom, isReady, feedAll, feedingOf, endOf, isReadable};
-ghost use Rattle.input.specs.Fed.{ReaderReady, Fed, FedAll};
+ghost use Rattle.input.specs.Reader.{atLineStart, emptyReader, hasRoom, isReady, canRead, feedingOf, endOf, isReadable};
+ghost use Rattle.input.specs.Fed.{ReaderReady, Fed, FedAll, FedAny};
 use line::form::line_of;
+use reading::progress::JOB_ENTRIES;
 use reading::progress::Part;
 use reading::progress::Progress;
+use reading::progress::STINT_ENTRIES;
 use reading::progress::refuse;
 use reading::rules::apply;
 
-// The lengths that the lent slices have: the most words that an input may ask for, and one entry more than a schedule may have,
-// so that a list that is too long is seen to be so.
+// The length of the lent memory: the most words that an input may ask for.
 pub const MEMORY_WORDS: usize = 0o10000;
-
-pub const JOB_ENTRIES: usize = 17;
-
-pub const STINT_ENTRIES: usize = 257;
 
 // How far the input was read, and the line that has begun: its first bytes, and how many of them there are.
 pub struct Reader {
@@ -146,7 +143,22 @@ fn is_ready(r: Reader) -> bool
     r.length <= 32
 }
 
-// Reads the next bytes of the input. Without 4096 words, 17 jobs and 257 stints of room, the input is unreadable.
+fn can_read(
+    r: Reader,
+    memory: &[u64],
+    jobs: &[u64],
+    stint_jobs: &[u64],
+    stint_turns: &[u64],
+) -> bool
+    ensures { λ o. ⌜ o ≡ canRead r (now (memory .entry)) (lists (now (jobs .entry)) (now («stint_jobs» .entry)) (now («stint_turns» .entry))) ⌝ }
+{
+    if !has_room(memory, jobs, stint_jobs, stint_turns) {
+        return false;
+    }
+    is_ready(r)
+}
+
+// Reads the next bytes of the input. With slices of other lengths the input is unreadable.
 pub fn feed(
     r: Reader,
     bytes: &[u8],
@@ -156,14 +168,12 @@ pub fn feed(
     stint_turns: &mut [u64],
 ) -> Reader
     ensures { λ o.
-        ⌜ feedingOf o (now (memory .exit)) (lists (now (jobs .exit)) (now («stint_jobs» .exit)) (now («stint_turns» .exit)))
-        ≡ feedAll (feedingOf r (now (memory .entry)) (lists (now (jobs .entry)) (now («stint_jobs» .entry)) (now («stint_turns» .entry)))) (now (bytes .entry)) ⌝ }
+        ⌜ FedAny (now (bytes .entry)) r (now (memory .entry)) (lists (now (jobs .entry)) (now («stint_jobs» .entry)) (now («stint_turns» .entry)))
+        o (now (memory .exit)) (lists (now (jobs .exit)) (now («stint_jobs» .exit)) (now («stint_turns» .exit))) ⌝ }
 {
-    if !has_room(&*memory, &*jobs, &*stint_jobs, &*stint_turns) {
-        return at_line_start(refuse());
-    }
-    if !is_ready(r) {
-        return at_line_start(refuse());
+    if !can_read(r, &*memory, &*jobs, &*stint_jobs, &*stint_turns) {
+        let unreadable = at_line_start(refuse());
+        return unreadable;
     }
     feed_all(
         r,
@@ -186,10 +196,7 @@ pub fn is_complete(
     ensures { λ o.
         ⌜ o ≡ isReadable (endOf (feedingOf r (now (memory .entry)) (lists (now (jobs .entry)) (now («stint_jobs» .entry)) (now («stint_turns» .entry))))) ⌝ }
 {
-    if !has_room(memory, jobs, stint_jobs, stint_turns) {
-        return false;
-    }
-    if !is_ready(r) {
+    if !can_read(r, memory, jobs, stint_jobs, stint_turns) {
         return false;
     }
     if r.length != 0 {

@@ -2,3 +2,4 @@
 pub mod Loan
 pub mod LoanAlone
 pub mod LoanWord
+pub mod DeviceTypes

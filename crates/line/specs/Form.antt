@@ -10,7 +10,7 @@ use Rattle.octal.specs.declared.text.Value.the-variants.{Of, NotOctal}
 use Rattle.line.specs.declared.form.Line.{Line}
 use Rattle.line.specs.declared.form.Line.the-variants.{Words, At, Word, Job, Stint, Unreadable}
 
--- "20 digits" for a word, and "Other values have 1 to 6 digits"
+-- "20 digits" for a word, and "Other values have 1 to 6 digits"; "all values in program lines are octal"
 unfoldable pub word : List ℕ → Value
 word text = cond (eqb (length text) 20) (valueOf text) NotOctal
 

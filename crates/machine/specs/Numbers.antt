@@ -20,11 +20,11 @@ processorOf s n = record { p = getD s n 0; a = getD s (10 + n) 0; stop = getD s 
 abbrev pub advanced : List ℕ → ℕ → ℕ → ℕ → List ℕ
 advanced s n p a = set (set s n p) (10 + n) a
 
--- the stops that a peripheral processor's record may hold: 0, for none, or 31 to 36
+-- the stops that a peripheral processor's record may hold: 0, for none, or 31 to 36; any other is "a stop not listed for that processor"
 abbrev pub stopListed : ℕ → Bool
 stopListed v = eqb v 0 || (leb 31 v && leb v 36)
 
--- its stop
+-- a new stop of processor n
 abbrev pub stopped : List ℕ → ℕ → PeripheralStop → List ℕ
 stopped s n why = set s (20 + n) (peripheralStopNumber why)
 
@@ -60,6 +60,7 @@ centralP s = getD s 78 0
 abbrev pub centralStop : List ℕ → ℕ
 centralStop s = getD s 82 0
 
+-- P, RA, FL, EM and stop of the central processor
 abbrev pub withControls : List ℕ → ℕ → ℕ → ℕ → ℕ → ℕ → List ℕ
 withControls s p ra fl em stop = set (set (set (set (set s 78 p) 79 ra) 80 fl) 81 em) 82 stop
 

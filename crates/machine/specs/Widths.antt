@@ -12,7 +12,7 @@ use Rattle.machine.specs.declared.effect.Effect.the-variants.{Advance, S
 use Rattle.machine.specs.Numbers.{stopListed, centralOf}
 use Rattle.machine.specs.Machine.{Machine}
 
--- what the record may hold at place i, but for the central processor's numbers
+-- what the record may hold at place i, but for the flags, which are 0 or 1, and the central processor's numbers
 unfoldable pub numberFits : ℕ → ℕ → Bool
 numberFits i v =
     cond (ltb i 10) (ltb v (2 ^ 12))

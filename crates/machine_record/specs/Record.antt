@@ -13,7 +13,7 @@ use Rattle.machine.specs.Numbers.{stopListed}
 use Rattle.machine.specs.declared.numbers.Processor.{Processor}
 use Rattle.machine_record.specs.declared.record.MachineRecord.{MachineRecord}
 
--- the record past the last processor's
+-- the default of `getD`, which is never read: a record has ten processors
 abbrev pub idle : Processor
 idle = record { p = 0; a = 0; stop = 0 }
 

@@ -1,4 +1,4 @@
--- The lines of the console's answer, as bytes. Assumes nothing.
+-- The lines of the console's answer, as bytes. "Words have 20 digits, other values no leading zeros." Assumes nothing.
 use mathlib.Core.Bool.{cond}
 use mathlib.Core.List.{List, [], _∷_, _++_}
 use Prim.Native.Nat.{ℕ, suc, _+_, _/_, _%_}
@@ -42,7 +42,7 @@ stintsLines index [] allTurns stops = []
 stintsLines index (job ∷ jobs) [] stops = []
 stintsLines index (job ∷ jobs) (turns ∷ allTurns) [] = []
 
--- "each nonzero word as address=word, by rising address. Words have 20 digits"
+-- "each nonzero word as address=word, by rising address"
 unfoldable pub wordLine : ℕ → ℕ → List ℕ
 wordLine address word = cond (eqb word 0) [] (octal address ++ (61 ∷ (digits 20 word ++ (10 ∷ []))))
 

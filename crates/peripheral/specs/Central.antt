@@ -32,14 +32,14 @@ exchangeOf c q = exchangeBy q (packageVerdict c (q .a))
 abbrev pub ifInside : List ℕ → ℕ → Effect → Effect
 ifInside c a e = cond (ltb a (length c)) e (Stop Because.CentralAddress)
 
--- 60: the word at A to the five words from d up
+-- "60, 62 move one word in five parts, top part first". 60: the word at A to the five words from d up
 unfoldable pub readCentral : List ℕ → Processor → ℕ → Effect
 readCentral c q d = ifInside c (q .a) (ReadCentral (onward (q .p) 1) (q .a) d (word c (q .a)))
 
--- the word of the five parts from d up, top part first
+-- the word of the five parts from d up
 unfoldable pub joined : List ℕ → ℕ → ℕ
 joined m d = fromParts (word m d) (word m (d + 1)) (word m (d + 2)) (word m (d + 3)) (word m (d + 4))
 
--- 62
+-- 62: that word to the word at A
 unfoldable pub writeCentral : List ℕ → List ℕ → Processor → ℕ → Effect
 writeCentral m c q d = ifInside c (q .a) (WriteCentral (onward (q .p) 1) (q .a) (q .a) (joined m d))

@@ -47,7 +47,8 @@ channelWords s q d = inputFrom s q d ∷ leftOut ∷ outputTo s q d ∷ leftOut 
 unfoldable pub seventhRowOf : List ℕ → List ℕ → Processor → ℕ → ℕ → Effect
 seventhRowOf m s q k d = getD (channelWords s q d) k (changeOn m s q k d)
 
--- by the first digit of the code; k is the second, below 8, so that no default of a row is ever taken. The address is d for 3k, (d) for 4k, and m + (d) for 5k.
+-- by the first digit of the code; k is the second, below 8. A default is taken in rows 6 and 7 alone, where it is 64 to 67 and 74 to 77.
+-- The address is d for 3k, (d) for 4k, and m + (d) for 5k.
 abbrev pub rows : List ℕ → List ℕ → List ℕ → Processor → ℕ → ℕ → List Effect
 rows m c s q k d =
     jumpOf m q k d

@@ -37,7 +37,7 @@ fn condition(c: Channel, k: u64) -> bool
 
 // Channel d, or the clock as an active and full channel.
 fn jump_channel(s: &[u64; 84], d: u64) -> Channel
-    requires { ⌜ d ≤ 12 ⌝ }
+    requires { ⌜ d ≤ 0o14 ⌝ }
     ensures { λ c. ⌜ c ≡ jumpChannel (now (s .entry)) d ⌝ }
 {
     if d == CLOCK {

@@ -1,4 +1,4 @@
--- 10 to 17, and 20 to 23. Operands of six bits are extended with zeros. Assumes nothing.
+-- 10 to 17, and 20 to 23: "Codes 00 to 57 as document 004, A by the 18-bit sum". Operands of six bits are extended with zeros. Assumes nothing.
 use mathlib.Core.List.{List, [], _∷_}
 use Prim.Native.Nat.{ℕ}
 use lib.ListN.{getD}

@@ -1,4 +1,4 @@
--- 00 to 07. Assumes nothing.
+-- 00 to 07: "Codes 00 to 57 as document 004". Assumes nothing.
 use mathlib.Core.Bool.{Bool, not, cond}
 use mathlib.Core.List.{List, [], _∷_}
 use Prim.Native.Nat.{ℕ}

@@ -1,4 +1,5 @@
--- 30 to 57: the first digit gives the address, the second what is done with the word there. Assumes nothing.
+-- 30 to 57: the first digit gives the address, the second what is done with the word there. "Codes 00 to 57 as document 004, A by the 18-bit
+-- sum"; words of twelve bits are extended with zeros. Assumes nothing.
 use mathlib.Core.List.{List, [], _∷_}
 use Prim.Native.Nat.{ℕ}
 use lib.ListN.{getD}

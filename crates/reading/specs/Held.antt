@@ -43,23 +43,29 @@ jobsInUse p n = record { part = Last.Jobs; words = p .words; jobs = n; stints = 
 abbrev pub stintsInUse : Progress → ℕ → Progress
 stintsInUse p n = record { part = Last.Stints; words = p .words; jobs = p .jobs; stints = n }
 
+-- the lengths of the lent lists: one entry more than a schedule may have, so that a list that is too long is kept too long
+abbrev pub jobEntries : ℕ
+jobEntries = 17
+
+abbrev pub stintEntries : ℕ
+stintEntries = 257
+
 -- the counts are within the lent memory and lists
 pub record Ready (p : Progress) : Type 0 where
   pub words : p .words ≤ 0o10000
-  pub jobs : p .jobs ≤ 17
-  pub stints : p .stints ≤ 257
+  pub jobs : p .jobs ≤ jobEntries
+  pub stints : p .stints ≤ stintEntries
 
--- the lent memory has the most words that an input may ask for, 10000 octal; each list has one entry more than a schedule may
--- have, so that a list that is too long is kept too long
+-- the lent memory has the most words that an input may ask for, 10000 octal
 pub record Room (m : List ℕ) (l : Lists) : Type 0 where
   pub memory : length m ≡ 0o10000
-  pub jobs : length (l .jobs) ≡ 17
-  pub stintJobs : length (l .stintJobs) ≡ 257
-  pub stintTurns : length (l .stintTurns) ≡ 257
+  pub jobs : length (l .jobs) ≡ jobEntries
+  pub stintJobs : length (l .stintJobs) ≡ stintEntries
+  pub stintTurns : length (l .stintTurns) ≡ stintEntries
 
--- the first 17 jobs and the first 257 stints: one more than a schedule may have
+-- the jobs and stints that the lists have room for
 abbrev pub firsts : Request → Request
-firsts q = request (q .memory) (take 17 (q .jobs)) (take 257 (q .stintJobs)) (take 257 (q .stintTurns))
+firsts q = request (q .memory) (take jobEntries (q .jobs)) (take stintEntries (q .stintJobs)) (take stintEntries (q .stintTurns))
 
 abbrev pub keep : Reading → Reading
 keep noLine = noLine

@@ -2,6 +2,11 @@
 ghost use mathlib.Core.Path.{_≡_};
 ghost use Rattle.reading.specs.Held.{refused, jobsInUse, stintsInUse};
 
+// The lengths of the lent lists: one entry more than a schedule may have, so that a list that is too long is kept too long.
+pub const JOB_ENTRIES: usize = 17;
+
+pub const STINT_ENTRIES: usize = 257;
+
 // The kind of the last line.
 pub enum Part {
     // No line was read yet.

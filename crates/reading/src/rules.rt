@@ -1,11 +1,13 @@
 // What each kind of line does to the input read so far.
 ghost use mathlib.Core.Path.{_≡_};
 ghost use lib.ListN.{length, replicate};
-ghost use Rattle.reading.specs.Held.{lists, Ready, Room};
+ghost use Rattle.reading.specs.Held.{lists, jobEntries, stintEntries, Ready, Room};
 ghost use Rattle.reading.specs.Applied.{Begun, BeginRead, LineRead, Applied, JobRead, StintRead};
 ghost use Rattle.line.specs.declared.form.Line.the-variants.{Words, Word};
+use super::progress::JOB_ENTRIES;
 use super::progress::Part;
 use super::progress::Progress;
+use super::progress::STINT_ENTRIES;
 use super::progress::refuse;
 use super::progress::with_jobs;
 use super::progress::with_stints;
@@ -106,7 +108,7 @@ fn on_word(p: Progress, w: u64, memory: &mut [u64]) -> Progress
 
 // Where all entries are in use, the list is known to be too long, and no more is kept. So with the stints.
 fn on_job(p: Progress, a: u64, jobs: &mut [u64]) -> Progress
-    requires { ⌜ Ready p × (length (now jobs) ≡ 17) ⌝ }
+    requires { ⌜ Ready p × (length (now jobs) ≡ jobEntries) ⌝ }
     ensures { λ r. ⌜ JobRead a p (now (jobs .entry)) r (now (jobs .exit)) ⌝ }
 {
     let part = p.part;
@@ -116,7 +118,7 @@ fn on_job(p: Progress, a: u64, jobs: &mut [u64]) -> Progress
         Part::Stints => refuse(),
         Part::Unreadable => refuse(),
         _ => {
-            if n < 17 {
+            if n < JOB_ENTRIES {
                 jobs[n] = a;
                 return with_jobs(p, n + 1);
             }
@@ -132,7 +134,7 @@ fn on_stint(
     stint_jobs: &mut [u64],
     stint_turns: &mut [u64],
 ) -> Progress
-    requires { ⌜ Ready p × (length (now «stint_jobs») ≡ 257) × (length (now «stint_turns») ≡ 257) ⌝ }
+    requires { ⌜ Ready p × (length (now «stint_jobs») ≡ stintEntries) × (length (now «stint_turns») ≡ stintEntries) ⌝ }
     ensures { λ r. ⌜ StintRead job turns p (now («stint_jobs» .entry)) (now («stint_turns» .entry)) r (now («stint_jobs» .exit)) (now («stint_turns» .exit)) ⌝ }
 {
     let part = p.part;
@@ -141,7 +143,7 @@ fn on_stint(
         Part::Start => refuse(),
         Part::Unreadable => refuse(),
         _ => {
-            if n < 257 {
+            if n < STINT_ENTRIES {
                 stint_jobs[n] = job;
                 stint_turns[n] = turns;
                 return with_stints(p, n + 1);

@@ -2,12 +2,12 @@
 use console::finish::OUTPUT_BYTES;
 use console::finish::Output;
 use console::finish::finish;
-use input::reader::JOB_ENTRIES;
 use input::reader::MEMORY_WORDS;
 use input::reader::Reader;
-use input::reader::STINT_ENTRIES;
 use input::reader::feed;
 use input::reader::start;
+use reading::progress::JOB_ENTRIES;
+use reading::progress::STINT_ENTRIES;
 
 // What was read, and whether that is the whole input: a read that fails does not end it.
 struct Source {

@@ -4,7 +4,7 @@ ghost use Rattle.outcome.specs.declared.refusal.Verdict.the-variants as Call;
 ghost use Rattle.machine_record.specs.Numbers.{machineOf};
 ghost use Rattle.machine_record.specs.Verdict.{processorsIn, turnVerdict, runVerdict};
 ghost use Rattle.rounds.specs.Rounds.{processorTurned, roundsOf};
-ghost use Rattle.whole.specs.Call.{left, leftBy, leftByRun, leftAfter, turnTo, turnAnswer, runTo, runAnswer};
+ghost use Rattle.whole.specs.Call.{left, leftBy, leftAfter, turnAnswer, runAnswer};
 use machine_record::numbers::numbers_of;
 use machine_record::numbers::record_of;
 use machine_record::record::MachineRecord;
@@ -52,7 +52,7 @@ pub fn peripheral_turn(
     machine: MachineRecord,
     processor: u64,
 ) -> TurnAnswer
-    ensures { λ o. ⌜ turnTo (now (central .exit)) (now (peripheral .exit)) o
+    ensures { λ o. ⌜ left (now (central .exit)) (now (peripheral .exit)) o
         ≡ turnAnswer (now (central .entry)) (now (peripheral .entry)) machine processor ⌝ }
 {
     match turn_verdict(&*central, &*peripheral, machine, processor) {
@@ -73,7 +73,7 @@ pub fn peripheral_turn(
 // Rounds on what no number refuses.
 fn make_rounds(c: &mut [u64], m: &mut [u16], r: MachineRecord, n: u64) -> Ran
     requires { ⌜ runVerdict (now c) (now m) r n ≡ Call.Accepted ⌝ }
-    ensures { λ o. ⌜ leftByRun (now (c .exit)) (now (m .exit)) o
+    ensures { λ o. ⌜ left (now (c .exit)) (now (m .exit)) o
         ≡ leftAfter (roundsOf n (processorsIn (now (m .entry))) (machineOf (now (c .entry)) (now (m .entry)) r)) ⌝ }
 {
     let k = m.len() / 4096;
@@ -95,7 +95,7 @@ pub fn run(
     machine: MachineRecord,
     rounds: u64,
 ) -> RunAnswer
-    ensures { λ o. ⌜ runTo (now (central .exit)) (now (peripheral .exit)) o
+    ensures { λ o. ⌜ left (now (central .exit)) (now (peripheral .exit)) o
         ≡ runAnswer (now (central .entry)) (now (peripheral .entry)) machine rounds ⌝ }
 {
     match run_verdict(&*central, &*peripheral, machine, rounds) {

@@ -18,7 +18,7 @@ use Rattle.single.specs.Order.{orElse}
 use Rattle.schedule.specs.Refusals.{listsFit, listsVerdict, ownersVerdict, scheduleVerdict}
 use Rattle.schedule.specs.Schedule.{Schedule}
 use Rattle.reading.specs.Reading.{Request, Reading, noLine, readable, unreadable}
-use Rattle.reading.specs.Held.{firsts, keep}
+use Rattle.reading.specs.Held.{firsts, keep, jobEntries, stintEntries}
 use Rattle.console.specs.Console.{zeroRecord, scheduleIn, printed, outputOn}
 
 -- a list of which one entry more than n was kept, and that has no more than n, was kept whole
@@ -52,7 +52,7 @@ fit-short jobs js ts e =
 -- lists that fit were kept whole
 firsts-fit : (q : Request) → fit (firsts q) ≡ true → firsts q ≡ q
 firsts-fit q e =
-    let s = fit-short (take 17 (q .jobs)) (take 257 (q .stintJobs)) (take 257 (q .stintTurns)) e in
+    let s = fit-short (take jobEntries (q .jobs)) (take stintEntries (q .stintJobs)) (take stintEntries (q .stintTurns)) e in
     rw (
       kept-whole 16 (q .jobs) (s .jobs-short),
       kept-whole 256 (q .stintJobs) (s .stints-short),
@@ -63,9 +63,9 @@ fits-firsts : (q : Request) → fit q ≡ true → firsts q ≡ q
 fits-firsts q e =
     let s = fit-short (q .jobs) (q .stintJobs) (q .stintTurns) e in
     rw (
-      take-all 17 (q .jobs) (omega (arith, s .jobs-short)),
-      take-all 257 (q .stintJobs) (omega (arith, s .stints-short)),
-      take-all 257 (q .stintTurns) (omega (arith, s .turns-short)),
+      take-all jobEntries (q .jobs) (omega (arith, s .jobs-short)),
+      take-all stintEntries (q .stintJobs) (omega (arith, s .stints-short)),
+      take-all stintEntries (q .stintTurns) (omega (arith, s .turns-short)),
     )
 
 -- lists that do not fit are refused with 6, or with a lower number that does not depend on them

@@ -28,9 +28,9 @@ use Rattle.input.specs.Reader.{feedingOf, endOf, isReadable}
 use Rattle.input.specs.declared.reader.Reader.{Reader}
 use Rattle.output.specs.Laws.Lengths.{length-stints, length-words, length-refused}
 use Rattle.console.specs.Console.{scheduleIn, printed, outputOn, outputOf}
-use Rattle.console.specs.Finish.{mostBytes, written, writtenTo, Finished, finished, finishTo}
+use Rattle.console.specs.Finish.{mostBytes, bytesIn, written, writtenTo, Finished, finished, finishTo}
 use Rattle.console.specs.declared.finish.Output.{Output}
-use Rattle.console.specs.declared.finish.Output.the-variants.{Bytes, TooShort}
+use Rattle.console.specs.declared.finish.Output.the-variants.{Bytes}
 
 printed-fits : (q : Request) → length (q .memory) ≤ 4096 → (v : Verdict) → scheduleVerdict (scheduleIn q) ≡ v
     → length (printed v (scheduleIn q)) ≤ mostBytes
@@ -84,10 +84,6 @@ held-fits r m l =
     let p = r .progress in
     let most : length (take (p .words) m) ≤ 4096 = rw (memory-length p m (k .progress) (k .room .memory)) (k .progress .words) in
     subst (λ (x : List ℕ). length x ≤ 4096) (ap memoryIn (sym (k .is) ∙ e)) (memory-held (p .part) (inUse p m l) most))
-
-abbrev bytesIn : Output → ℕ
-bytesIn (Bytes n) = n
-bytesIn TooShort = 0
 
 written-fits : (bytes out : List ℕ) → length bytes ≤ mostBytes → (t : Bool) → leb mostBytes (length out) ≡ t
     → bytesIn (writtenTo bytes out .answer) ≤ length (writtenTo bytes out .out)

@@ -1,5 +1,4 @@
 -- A record that is stored is read back: no value of it is lost in the numbers. Assumes nothing.
-use mathlib.Core.Bool.{Bool, true, false}
 use mathlib.Core.List.{List}
 use mathlib.Core.Path.{_≡_, refl, sym, ap, _∙_}
 use Prim.Native.Nat.{ℕ, _+_, _<_}
@@ -8,20 +7,16 @@ use lib.ListN.{length, getD}
 use Rattle.channel.specs.Codes.{disconnected}
 use Rattle.channel.specs.declared.record.Channel.{Channel}
 use Rattle.exchange.specs.declared.record.Central.{Central}
-use Rattle.machine.specs.Numbers.{flag, isSet}
 use Rattle.machine.specs.declared.numbers.Processor.{Processor}
 use Rattle.machine_record.specs.Numbers.{entries}
 use Rattle.machine_record.specs.Record.{idle, channelAt, processorAt}
 use Rattle.machine_record.specs.Laws.Entries.{entries-are}
+use Rattle.machine_record.specs.Laws.Numbers.{flag-read}
 use Rattle.machine_record.specs.declared.record.MachineRecord.{MachineRecord}
 use Rattle.flat.specs.Layout.{rows, centralNumbers, channelNumbers, machineNumbers, registerIn, centralIn, channelIn, channelInMachine, processorInMachine, machineIn}
 
-flag-again : (b : Bool) → isSet (flag b) ≡ b
-flag-again true = refl
-flag-again false = refl
-
 pub channel-again : (c : Channel) → channelIn (channelNumbers c) 0 ≡ c
-channel-again c = rw (flag-again (c .active), flag-again (c .full), flag-again (c .mark))
+channel-again c = rw (flag-read (c .active), flag-read (c .full), flag-read (c .mark))
 
 -- a list by its own entries
 listed : {A : Type 0} (d : A) (n : ℕ) (l : List A) → length l ≡ n → entries n 0 (λ i. getD l i d) ≡ l

@@ -1,5 +1,5 @@
 -- What a byte does to a reader, as the code tells its cases apart. Assumes nothing.
-use mathlib.Core.Bool.{Bool, true, false, _&&_, cond, false≢true, and-false}
+use mathlib.Core.Bool.{Bool, true, false, _&&_, cond, false≢true}
 use mathlib.Core.List.{List, [], _∷_, _++_}
 use mathlib.Core.Path.{_≡_, refl, sym, ap, subst, _∙_}
 use Prim.Native.Nat.{ℕ, zero, suc, _+_, _≤_, _<_}
@@ -14,14 +14,14 @@ use Rattle.word.specs.Laws.Tests.{both}
 use Rattle.line.specs.Form.{lineOf}
 use Rattle.line.specs.declared.form.Line.{Line}
 use Rattle.reading.specs.Reading.{Request, Reading, noLine, readable, unreadable, lineTo}
-use Rattle.reading.specs.Held.{Lists, readingAt, held, refused, Ready, Room, keep}
+use Rattle.reading.specs.Held.{Lists, readingAt, held, refused, Ready, Room, keep, jobEntries, stintEntries}
 use Rattle.reading.specs.Applied.{Applied}
 use Rattle.reading.specs.Laws.Entries.{entry-added, entries-full}
 use Rattle.reading.specs.declared.progress.Part.{Part}
 use Rattle.reading.specs.declared.progress.Part.the-variants as Last
 use Rattle.reading.specs.declared.progress.Progress.{Progress}
-use Rattle.input.specs.Reader.{Feeding, feeding, feedTo, feedAll, atLineStart, heldBy, hasRoom, isReady, feedingOf, endOf, isReadable}
-use Rattle.input.specs.Fed.{ReaderReady, Fed, FedAll}
+use Rattle.input.specs.Reader.{Feeding, feeding, feedTo, feedAll, atLineStart, heldBy, hasRoom, isReady, canRead, feedingOf, endOf, isReadable}
+use Rattle.input.specs.Fed.{ReaderReady, Fed, FedAll, FedAny}
 use Rattle.input.specs.declared.reader.Reader.{Reader}
 
 -- a byte after a line that has begun
@@ -105,48 +105,54 @@ module _ {bytes : List ℕ} {i : ℕ} {r₀ : Reader} {m₀ : List ℕ} {l₀ : 
 room-by-test : (m : List ℕ) (l : Lists) → hasRoom m l ≡ true → Room m l
 room-by-test m l e =
     let e₁ = both (eqb (length m) 4096) _ e in
-    let e₂ = both (eqb (length (l .jobs)) 17) _ (e₁ .1) in
-    let e₃ = both (eqb (length (l .stintJobs)) 257) (eqb (length (l .stintTurns)) 257) (e₂ .1) in
+    let e₂ = both (eqb (length (l .jobs)) jobEntries) _ (e₁ .1) in
+    let e₃ = both (eqb (length (l .stintJobs)) stintEntries) (eqb (length (l .stintTurns)) stintEntries) (e₂ .1) in
     record {
       memory = eqb-true (length m) 4096 (e₁ .0);
-      jobs = eqb-true (length (l .jobs)) 17 (e₂ .0);
-      stintJobs = eqb-true (length (l .stintJobs)) 257 (e₃ .0);
-      stintTurns = eqb-true (length (l .stintTurns)) 257 (e₃ .1);
+      jobs = eqb-true (length (l .jobs)) jobEntries (e₂ .0);
+      stintJobs = eqb-true (length (l .stintJobs)) stintEntries (e₃ .0);
+      stintTurns = eqb-true (length (l .stintTurns)) stintEntries (e₃ .1);
     }
 
 counts-by-test : (p : Progress) (n : ℕ)
-    → (leb (p .words) 4096 && (leb (p .jobs) 17 && (leb (p .stints) 257 && leb n 32))) ≡ true → Ready p × (n ≤ 32)
+    → (leb (p .words) 4096 && (leb (p .jobs) jobEntries && (leb (p .stints) stintEntries && leb n 32))) ≡ true → Ready p × (n ≤ 32)
 counts-by-test p n e =
     let e₁ = both (leb (p .words) 4096) _ e in
-    let e₂ = both (leb (p .jobs) 17) _ (e₁ .1) in
-    let e₃ = both (leb (p .stints) 257) (leb n 32) (e₂ .1) in (
+    let e₂ = both (leb (p .jobs) jobEntries) _ (e₁ .1) in
+    let e₃ = both (leb (p .stints) stintEntries) (leb n 32) (e₂ .1) in (
       record {
         words = leb-true (p .words) 4096 (e₁ .0);
-        jobs = leb-true (p .jobs) 17 (e₂ .0);
-        stints = leb-true (p .stints) 257 (e₃ .0);
+        jobs = leb-true (p .jobs) jobEntries (e₂ .0);
+        stints = leb-true (p .stints) stintEntries (e₃ .0);
       },
       leb-true n 32 (e₃ .1),
     )
 
-pub ready-by-test : (r : Reader) (m : List ℕ) (l : Lists) → hasRoom m l ≡ true → isReady r ≡ true → length (r .line) ≡ 32
-    → ReaderReady r m l
-ready-by-test r m l e f long =
-    let counts = counts-by-test (r .progress) (r .length) f in
-    record { progress = counts .0; room = room-by-test m l e; begun = counts .1; long = long }
+pub ready-by-test : (r : Reader) (m : List ℕ) (l : Lists) → canRead r m l ≡ true → length (r .line) ≡ 32 → ReaderReady r m l
+ready-by-test r m l e long =
+    let tests = both (hasRoom m l) (isReady r) e in
+    let counts = counts-by-test (r .progress) (r .length) (tests .1) in
+    record { progress = counts .0; room = room-by-test m l (tests .0); begun = counts .1; long = long }
 
-pub feeding-ready : (r : Reader) (m : List ℕ) (l : Lists) → ReaderReady r m l → feedingOf r m l ≡ heldBy r m l
-unfolding feedingOf
-feeding-ready r m l k =
+test-by-ready : (r : Reader) (m : List ℕ) (l : Lists) → ReaderReady r m l → canRead r m l ≡ true
+test-by-ready r m l k =
     rw (
       eq-eqb (length m) 4096 (k .room .memory),
-      eq-eqb (length (l .jobs)) 17 (k .room .jobs),
-      eq-eqb (length (l .stintJobs)) 257 (k .room .stintJobs),
-      eq-eqb (length (l .stintTurns)) 257 (k .room .stintTurns),
+      eq-eqb (length (l .jobs)) jobEntries (k .room .jobs),
+      eq-eqb (length (l .stintJobs)) stintEntries (k .room .stintJobs),
+      eq-eqb (length (l .stintTurns)) stintEntries (k .room .stintTurns),
       le-leb (r .progress .words) 4096 (k .progress .words),
-      le-leb (r .progress .jobs) 17 (k .progress .jobs),
-      le-leb (r .progress .stints) 257 (k .progress .stints),
+      le-leb (r .progress .jobs) jobEntries (k .progress .jobs),
+      le-leb (r .progress .stints) stintEntries (k .progress .stints),
       le-leb (r .length) 32 (k .begun),
     )
+
+held-by : (r : Reader) (m : List ℕ) (l : Lists) → canRead r m l ≡ true → feedingOf r m l ≡ heldBy r m l
+unfolding feedingOf
+held-by r m l e = rw e
+
+pub feeding-ready : (r : Reader) (m : List ℕ) (l : Lists) → ReaderReady r m l → feedingOf r m l ≡ heldBy r m l
+feeding-ready r m l k = held-by r m l (test-by-ready r m l k)
 
 -- once unreadable, always so
 feed-unreadable : (byte : ℕ) → feedTo (feeding [] unreadable) byte ≡ feeding [] unreadable
@@ -164,24 +170,26 @@ unfolding feedingOf
 feeding-refused m l =
     of-cond (λ (f : Feeding). f ≡ feeding [] unreadable) (hasRoom m l && isReady (atLineStart refused)) (λ _. refl) (λ _. refl)
 
-pub feeding-no-room : (r : Reader) (m : List ℕ) (l : Lists) → hasRoom m l ≡ false → feedingOf r m l ≡ feeding [] unreadable
+pub feeding-unread : (r : Reader) (m : List ℕ) (l : Lists) → canRead r m l ≡ false → feedingOf r m l ≡ feeding [] unreadable
 unfolding feedingOf
-feeding-no-room r m l e = rw e
-
-pub feeding-not-ready : (r : Reader) (m : List ℕ) (l : Lists) → isReady r ≡ false → feedingOf r m l ≡ feeding [] unreadable
-unfolding feedingOf
-feeding-not-ready r m l e = rw (e, and-false (hasRoom m l))
+feeding-unread r m l e = rw e
 
 -- what `feed` gives, with its tests met or not
 pub fed-ready : {bytes : List ℕ} {r r′ : Reader} {m m′ : List ℕ} {l l′ : Lists} → ReaderReady r m l → FedAll bytes r m l r′ m′ l′
-    → feedingOf r′ m′ l′ ≡ feedAll (feedingOf r m l) bytes
+    → FedAny bytes r m l r′ m′ l′
 fed-ready {bytes} {r} {r′} {m} {m′} {l} {l′} k f =
-    feeding-ready r′ m′ l′ (f .ready) ∙ f .is ∙ ap (λ (x : Feeding). feedAll x bytes) (sym (feeding-ready r m l k))
+    record {
+      is = feeding-ready r′ m′ l′ (f .ready) ∙ f .is ∙ ap (λ (x : Feeding). feedAll x bytes) (sym (feeding-ready r m l k));
+      unread = λ e. absurd (false≢true (sym e ∙ test-by-ready r m l k));
+    }
 
-pub fed-refused : (bytes : List ℕ) (r r′ : Reader) (m : List ℕ) (l : Lists) → feedingOf r m l ≡ feeding [] unreadable
-    → r′ ≡ atLineStart refused → feedingOf r′ m l ≡ feedAll (feedingOf r m l) bytes
-fed-refused bytes r r′ m l e f =
-    rw (f, e) (feeding-refused m l ∙ sym (unreadable-stays bytes))
+pub fed-unread : {bytes : List ℕ} {r r′ : Reader} {m : List ℕ} {l : Lists} → canRead r m l ≡ false → r′ ≡ atLineStart refused
+    → FedAny bytes r m l r′ m l
+fed-unread {bytes} {r} {r′} {m} {l} e f =
+    record {
+      is = rw (f, feeding-unread r m l e) (feeding-refused m l ∙ sym (unreadable-stays bytes));
+      unread = λ _. (f, refl, refl);
+    }
 
 -- the tests of a complete input
 some-line : (n : ℕ) (line : List ℕ) (x : Reading) → (n ≡ 0 → ⊥) → length line ≡ 32 → isReadable (endOf (feeding (take n line) x)) ≡ false
@@ -230,11 +238,7 @@ readable-end (byte ∷ line) noLine e = absurd (false≢true e)
 readable-end (byte ∷ line) (readable part q) e = absurd (false≢true e)
 readable-end (byte ∷ line) unreadable e = absurd (false≢true e)
 
-held-by : (r : Reader) (m : List ℕ) (l : Lists) → (hasRoom m l && isReady r) ≡ true → feedingOf r m l ≡ heldBy r m l
-unfolding feedingOf
-held-by r m l e = rw e
-
-complete-by : (r : Reader) (m : List ℕ) (l : Lists) (t : Bool) → (hasRoom m l && isReady r) ≡ t
+complete-by : (r : Reader) (m : List ℕ) (l : Lists) (t : Bool) → canRead r m l ≡ t
     → isReadable (endOf (cond t (heldBy r m l) (feeding [] unreadable))) ≡ true → Complete r m l
 complete-by r m l true e f =
     let tests = both (hasRoom m l) (isReady r) e in
@@ -247,4 +251,4 @@ complete-by r m l false e f = absurd (false≢true f)
 
 pub complete : (r : Reader) (m : List ℕ) (l : Lists) → isReadable (endOf (feedingOf r m l)) ≡ true → Complete r m l
 unfolding feedingOf
-complete r m l e = complete-by r m l (hasRoom m l && isReady r) refl e
+complete r m l e = complete-by r m l (canRead r m l) refl e

@@ -13,7 +13,7 @@ use Rattle.line.specs.declared.form.Line.{Line}
 use Rattle.line.specs.declared.form.Line.the-variants.{Words, At, Word, Job, Stint, Unreadable}
 use Rattle.reading.specs.Lines.{Lines, linesAfter, linesOf}
 use Rattle.reading.specs.Reading.{Request, request, Part, afterWords, inBlock, inJobs, inStints, Reading, noLine, readable, unreadable, atTo, wordTo, jobTo, withJob, lineTo, allTo, ended, readingOf}
-use Rattle.reading.specs.Held.{firsts, keep}
+use Rattle.reading.specs.Held.{firsts, keep, jobEntries, stintEntries}
 use Rattle.input.specs.Reader.{Feeding, feeding, feedTo, feedAll, nothingFed, endOf}
 use Rattle.input.specs.Laws.Feeding.{feed-begun}
 
@@ -33,7 +33,7 @@ take-twice : (n : ℕ) (l : List ℕ) → take n (take n l) ≡ take n l
 take-twice n l = take-take n n l (omega arith)
 
 firsts-twice : (q : Request) → firsts (firsts q) ≡ firsts q
-firsts-twice q = rw (take-twice 17 (q .jobs), take-twice 257 (q .stintJobs), take-twice 257 (q .stintTurns))
+firsts-twice q = rw (take-twice jobEntries (q .jobs), take-twice stintEntries (q .stintJobs), take-twice stintEntries (q .stintTurns))
 
 -- what is kept of a request that a test lets by
 keep-if : (t : Bool) (part : Part) (q : Request)
@@ -63,7 +63,7 @@ keep-word inJobs q w = refl
 keep-word inStints q w = refl
 
 job-firsts : (q : Request) (a : ℕ) → keep (readable inJobs (withJob (firsts q) a)) ≡ keep (readable inJobs (withJob q a))
-job-firsts q a = rw (cut-more 17 (q .jobs) (a ∷ []), take-twice 257 (q .stintJobs), take-twice 257 (q .stintTurns))
+job-firsts q a = rw (cut-more jobEntries (q .jobs) (a ∷ []), take-twice stintEntries (q .stintJobs), take-twice stintEntries (q .stintTurns))
 
 keep-job : (part : Part) (q : Request) (a : ℕ) → keep (jobTo part (firsts q) a) ≡ keep (jobTo part q a)
 unfolding jobTo
@@ -81,7 +81,7 @@ keep-line (readable part q) (At a) = keep-at part q a
 keep-line (readable part q) (Word w) = keep-word part q w
 keep-line (readable part q) (Job a) = keep-job part q a
 keep-line (readable part q) (Stint job turns) =
-    rw (take-twice 17 (q .jobs), cut-more 257 (q .stintJobs) (job ∷ []), cut-more 257 (q .stintTurns) (turns ∷ []))
+    rw (take-twice jobEntries (q .jobs), cut-more stintEntries (q .stintJobs) (job ∷ []), cut-more stintEntries (q .stintTurns) (turns ∷ []))
 keep-line (readable part q) Unreadable = refl
 keep-line unreadable line = refl
 

@@ -3,8 +3,8 @@ use mathlib.Core.List.{List}
 use mathlib.Core.Path.{_≡_, refl, _∙_}
 use Prim.Native.Nat.{ℕ, _+_, _^_, _≤_, _<_}
 use native.Mathlib.Omega.{arith}
-use lib.ListN.{getD, set, length, length-set}
-use lib.Seq.{getD-set-same, getD-set-other}
+use lib.ListN.{getD, set, length}
+use lib.Seq.{getD-set-other}
 use Rattle.word.specs.Fields.{part, fromParts}
 use Rattle.word.specs.Laws.Fields.{parts-of, from-parts}
 use Rattle.channel.specs.declared.record.Channel.{Channel}
@@ -17,7 +17,7 @@ use Rattle.machine.specs.Numbers.{processorOf, advanced, flag, withChann
 use Rattle.machine.specs.Machine.{Machine}
 use Rattle.machine.specs.Apply.{withParts, exchangedAt, applied}
 use Rattle.machine.specs.Widths.{ShortWords}
-use Rattle.machine.specs.Laws.Widths.{set-own, still}
+use Rattle.machine.specs.Laws.Widths.{set-own, five-read}
 
 -- a number stored at none of the three places of processor j
 processor-kept : (s : List ℕ) (i v j : ℕ) → (j ≡ i → ⊥) → (10 + j ≡ i → ⊥) → (20 + j ≡ i → ⊥) → processorOf (set s i v) j ≡ processorOf s j
@@ -93,49 +93,6 @@ parts-again m i w =
     rw (q .first, q .second, q .third, q .fourth, q .fifth)
     (rw (set-own m i, set-own m (i + 1), set-own m (i + 2), set-own m (i + 3), set-own m (i + 4)))
 
--- five words stored one after the other are read back
-module _ (m : List ℕ) (i a b c d e : ℕ) (room : i + 4 < length m) where
-  abbrev m₁ : List ℕ
-  m₁ = set m i a
-
-  abbrev m₂ : List ℕ
-  m₂ = set m₁ (i + 1) b
-
-  abbrev m₃ : List ℕ
-  m₃ = set m₂ (i + 2) c
-
-  abbrev m₄ : List ℕ
-  m₄ = set m₃ (i + 3) d
-
-  abbrev m₅ : List ℕ
-  m₅ = set m₄ (i + 4) e
-
-  read-first : getD m₅ i 0 ≡ a
-  read-first =
-      still m₄ i (i + 4) e a (omega arith)
-      (still m₃ i (i + 3) d a (omega arith)
-      (still m₂ i (i + 2) c a (omega arith) (still m₁ i (i + 1) b a (omega arith) (getD-set-same m i a 0 (omega arith)))))
-
-  read-second : getD m₅ (i + 1) 0 ≡ b
-  read-second =
-      still m₄ (i + 1) (i + 4) e b (omega arith)
-      (still m₃ (i + 1) (i + 3) d b (omega arith)
-      (still m₂ (i + 1) (i + 2) c b (omega arith) (getD-set-same m₁ (i + 1) b 0 (simp length-set (omega arith)))))
-
-  read-third : getD m₅ (i + 2) 0 ≡ c
-  read-third =
-      still m₄ (i + 2) (i + 4) e c (omega arith)
-      (still m₃ (i + 2) (i + 3) d c (omega arith) (getD-set-same m₂ (i + 2) c 0 (simp length-set (omega arith))))
-
-  read-fourth : getD m₅ (i + 3) 0 ≡ d
-  read-fourth = still m₄ (i + 3) (i + 4) e d (omega arith) (getD-set-same m₃ (i + 3) d 0 (simp length-set (omega arith)))
-
-  read-fifth : getD m₅ (i + 4) 0 ≡ e
-  read-fifth = getD-set-same m₄ (i + 4) e 0 (simp length-set room)
-
-  read-five : fromParts (getD m₅ i 0) (getD m₅ (i + 1) 0) (getD m₅ (i + 2) 0) (getD m₅ (i + 3) 0) (getD m₅ (i + 4) 0) ≡ fromParts a b c d e
-  read-five = rw (read-first, read-second, read-third, read-fourth, read-fifth)
-
 -- and the five parts that 60 makes of a word, read by 62, give the word
 pub parts-read : (m : List ℕ) (i w : ℕ) → i + 4 < length m → w < 2 ^ 60
     → fromParts
@@ -146,4 +103,6 @@ pub parts-read : (m : List ℕ) (i w : ℕ) → i + 4 < length m → w < 2 ^ 60
     (getD (withParts m i w) (i + 4) 0)
     ≡ w
 unfolding withParts
-parts-read m i w room h = read-five m i (part w 0) (part w 1) (part w 2) (part w 3) (part w 4) room ∙ from-parts w h
+parts-read m i w room h =
+    let f = five-read m i (part w 0) (part w 1) (part w 2) (part w 3) (part w 4) room in
+    rw (f .first, f .second, f .third, f .fourth, f .fifth) (from-parts w h)

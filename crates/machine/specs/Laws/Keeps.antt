@@ -80,49 +80,39 @@ module _ (c x s : List ℕ) (at : ℕ) where
 
 -- each part of an effect
 module _ (m c x s : List ℕ) (k : Kept 4096 (machine m c x s)) where
-  advance-keeps : (n p a : ℕ) → n < 10 → p < 2 ^ 12 → a < 2 ^ 18 → Kept 4096 (machine m c x (advanced s n p a))
-  advance-keeps n p a h hp ha =
+  -- of the numbers none of the central processor's changes
+  numbers-keep : (t : List ℕ) → centralOf x t ≡ centralOf x s → length t ≡ length s → Wide t → Kept 4096 (machine m c x t)
+  numbers-keep t e l w =
       record {
         size = k .size;
         short = k .short;
-        host = subst (HostAccepted c) (sym (central-kept-advanced x s n p a h)) (k .host);
+        host = subst (HostAccepted c) (sym e) (k .host);
         count = k .count;
-        places = length-advanced s n p a ∙ k .places;
-        wide = wide-advanced s n p a h hp ha (k .wide);
+        places = l ∙ k .places;
+        wide = w;
       }
+
+  memory-keep : (t : List ℕ) → length t ≡ length m → ShortWords t → Kept 4096 (machine t c x s)
+  memory-keep t l w =
+      record { size = l ∙ k .size; short = w; host = k .host; count = k .count; places = k .places; wide = k .wide }
+
+  advance-keeps : (n p a : ℕ) → n < 10 → p < 2 ^ 12 → a < 2 ^ 18 → Kept 4096 (machine m c x (advanced s n p a))
+  advance-keeps n p a h hp ha =
+      numbers-keep (advanced s n p a) (central-kept-advanced x s n p a h) (length-advanced s n p a) (wide-advanced s n p a h hp ha (k .wide))
 
   stop-keeps : (n : ℕ) (why : PeripheralStop) → n < 10 → Kept 4096 (machine m c x (stopped s n why))
   stop-keeps n why h =
-      record {
-        size = k .size;
-        short = k .short;
-        host = subst (HostAccepted c) (sym (central-kept-stopped x s n why h)) (k .host);
-        count = k .count;
-        places = length-set s (20 + n) _ ∙ k .places;
-        wide = wide-stopped s n why h (k .wide);
-      }
+      numbers-keep (stopped s n why) (central-kept-stopped x s n why h) (length-set s (20 + n) _) (wide-stopped s n why h (k .wide))
+
+  channel-keeps : (i : ℕ) (d : Channel) → i < 12 → Fits d → Kept 4096 (machine m c x (withChannel s i d))
+  channel-keeps i d h f =
+      numbers-keep (withChannel s i d) (central-kept-channel x s i d h) (length-channel s i d) (wide-channel s i d h f (k .wide))
 
   store-keeps : (i v : ℕ) → v < 2 ^ 12 → Kept 4096 (machine (set m i v) c x s)
-  store-keeps i v h =
-      record {
-        size = length-set m i v ∙ k .size;
-        short = short-set m i v h (k .short);
-        host = k .host;
-        count = k .count;
-        places = k .places;
-        wide = k .wide;
-      }
+  store-keeps i v h = memory-keep (set m i v) (length-set m i v) (short-set m i v h (k .short))
 
   parts-keep : (i w : ℕ) → Kept 4096 (machine (withParts m i w) c x s)
-  parts-keep i w =
-      record {
-        size = length-parts m i w ∙ k .size;
-        short = short-parts m i w (k .short);
-        host = k .host;
-        count = k .count;
-        places = k .places;
-        wide = k .wide;
-      }
+  parts-keep i w = memory-keep (withParts m i w) (length-parts m i w) (short-parts m i w (k .short))
 
   word-keeps : (i w : ℕ) → w < 2 ^ 60 → Kept 4096 (machine m (set c i w) x s)
   word-keeps i w h =
@@ -133,17 +123,6 @@ module _ (m c x s : List ℕ) (k : Kept 4096 (machine m c x s)) where
         count = k .count;
         places = k .places;
         wide = k .wide;
-      }
-
-  channel-keeps : (i : ℕ) (d : Channel) → i < 12 → Fits d → Kept 4096 (machine m c x (withChannel s i d))
-  channel-keeps i d h f =
-      record {
-        size = k .size;
-        short = k .short;
-        host = subst (HostAccepted c) (sym (central-kept-channel x s i d h)) (k .host);
-        count = k .count;
-        places = length-channel s i d ∙ k .places;
-        wide = wide-channel s i d h f (k .wide);
       }
 
   jump-keeps : (at : ℕ) → PackageAccepted c at

@@ -32,28 +32,28 @@ set-own l i = set-getD l i 0
 
 -- what is asked at each place
 module _ (i v : ℕ) where
-  at-p : i < 10 → numberFits i v ≡ ltb v (2 ^ 12)
+  pub at-p : i < 10 → numberFits i v ≡ ltb v (2 ^ 12)
   unfolding numberFits
   at-p h = rw (lt-ltb i 10 h)
 
-  at-a : 10 ≤ i → i < 20 → numberFits i v ≡ ltb v (2 ^ 18)
+  pub at-a : 10 ≤ i → i < 20 → numberFits i v ≡ ltb v (2 ^ 18)
   unfolding numberFits
   at-a g h = rw (le-ltb i 10 g, lt-ltb i 20 h)
 
-  at-stop : 20 ≤ i → i < 30 → numberFits i v ≡ stopListed v
+  pub at-stop : 20 ≤ i → i < 30 → numberFits i v ≡ stopListed v
   unfolding numberFits
   at-stop g h = rw (le-ltb i 10 (omega arith), le-ltb i 20 g, lt-ltb i 30 h)
 
-  at-flag : 30 ≤ i → i < 66 → numberFits i v ≡ true
+  pub at-flag : 30 ≤ i → i < 66 → numberFits i v ≡ true
   unfolding numberFits
   at-flag g h = rw (le-ltb i 10 (omega arith), le-ltb i 20 (omega arith), le-ltb i 30 g, lt-ltb i 66 h)
 
-  at-word : 66 ≤ i → i < 78 → numberFits i v ≡ ltb v (2 ^ 12)
+  pub at-word : 66 ≤ i → i < 78 → numberFits i v ≡ ltb v (2 ^ 12)
   unfolding numberFits
   at-word g h =
       rw (le-ltb i 10 (omega arith), le-ltb i 20 (omega arith), le-ltb i 30 (omega arith), le-ltb i 66 g, lt-ltb i 78 h)
 
-  at-central : 78 ≤ i → i < 83 → numberFits i v ≡ true
+  pub at-central : 78 ≤ i → i < 83 → numberFits i v ≡ true
   unfolding numberFits
   at-central g h =
       rw (
@@ -65,9 +65,18 @@ module _ (i v : ℕ) where
         lt-ltb i 83 h,
       )
 
-at-clock : (v : ℕ) → numberFits 83 v ≡ ltb v (2 ^ 12)
-unfolding numberFits
-at-clock v = refl
+  -- and past the last place
+  pub at-clock : 83 ≤ i → numberFits i v ≡ ltb v (2 ^ 12)
+  unfolding numberFits
+  at-clock g =
+      rw (
+        le-ltb i 10 (omega arith),
+        le-ltb i 20 (omega arith),
+        le-ltb i 30 (omega arith),
+        le-ltb i 66 (omega arith),
+        le-ltb i 78 (omega arith),
+        le-ltb i 83 g,
+      )
 
 -- the widths, place by place
 module _ (s : List ℕ) (w : Wide s) where
@@ -85,7 +94,7 @@ module _ (s : List ℕ) (w : Wide s) where
       ltb-true (getD s (66 + i) 0) (2 ^ 12) (sym (at-word (66 + i) (getD s (66 + i) 0) (omega arith) (omega arith)) ∙ w .at (66 + i))
 
   pub clock-short : clockOf s < 2 ^ 12
-  clock-short = ltb-true (clockOf s) (2 ^ 12) (sym (at-clock (clockOf s)) ∙ w .at 83)
+  clock-short = ltb-true (clockOf s) (2 ^ 12) (sym (at-clock 83 (clockOf s) (omega arith)) ∙ w .at 83)
 
 pub wide-set : (s : List ℕ) (i v : ℕ) → numberFits i v ≡ true → Wide s → Wide (set s i v)
 wide-set s i v h w = record { at = λ j. set-in (λ (k y : ℕ). numberFits k y ≡ true) s i j v h (w .at j) }
@@ -129,7 +138,7 @@ wide-controls s p ra fl em stop w =
 pub clock-ticks : (s : List ℕ) → Wide s → Wide (set s 83 ((clockOf s + 1) % 4096))
 clock-ticks s w =
     wide-set s 83 ((clockOf s + 1) % 4096)
-    (at-clock ((clockOf s + 1) % 4096) ∙ lt-ltb ((clockOf s + 1) % 4096) (2 ^ 12) (omega arith))
+    (at-clock 83 ((clockOf s + 1) % 4096) (omega arith) ∙ lt-ltb ((clockOf s + 1) % 4096) (2 ^ 12) (omega arith))
     w
 
 -- numbers of the peripheral processors, of the channels and of the clock are none of the central processor's
@@ -182,49 +191,53 @@ pub controls-own : (x s : List ℕ) → withCentral s (centralOf x s) ≡ s
 controls-own x s = rw (set-own s 78, set-own s 79, set-own s 80, set-own s 81, set-own s 82)
 
 -- a number is read back after another is stored at a later place
-pub still : (l : List ℕ) (i j v w : ℕ) → i < j → getD l i 0 ≡ w → getD (set l j v) i 0 ≡ w
+still : (l : List ℕ) (i j v w : ℕ) → i < j → getD l i 0 ≡ w → getD (set l j v) i 0 ≡ w
 still l i j v w h e = getD-set-other l j i v 0 (λ z. omega arith) ∙ e
 
+-- five numbers stored one after the other, from place i on, are read back
+pub record Five (l : List ℕ) (i a b c d e : ℕ) : Type 0 where
+  pub first : getD l i 0 ≡ a
+  pub second : getD l (i + 1) 0 ≡ b
+  pub third : getD l (i + 2) 0 ≡ c
+  pub fourth : getD l (i + 3) 0 ≡ d
+  pub fifth : getD l (i + 4) 0 ≡ e
+
+module _ (l : List ℕ) (i a b c d e : ℕ) (room : i + 4 < length l) where
+  abbrev l₁ : List ℕ
+  l₁ = set l i a
+
+  abbrev l₂ : List ℕ
+  l₂ = set l₁ (i + 1) b
+
+  abbrev l₃ : List ℕ
+  l₃ = set l₂ (i + 2) c
+
+  abbrev l₄ : List ℕ
+  l₄ = set l₃ (i + 3) d
+
+  pub five-read : Five (set l₄ (i + 4) e) i a b c d e
+  five-read =
+      record {
+        first =
+            still l₄ i (i + 4) e a (omega arith)
+            (still l₃ i (i + 3) d a (omega arith)
+            (still l₂ i (i + 2) c a (omega arith) (still l₁ i (i + 1) b a (omega arith) (getD-set-same l i a 0 (omega arith)))));
+        second =
+            still l₄ (i + 1) (i + 4) e b (omega arith)
+            (still l₃ (i + 1) (i + 3) d b (omega arith)
+            (still l₂ (i + 1) (i + 2) c b (omega arith) (getD-set-same l₁ (i + 1) b 0 (simp length-set (omega arith)))));
+        third =
+            still l₄ (i + 2) (i + 4) e c (omega arith)
+            (still l₃ (i + 2) (i + 3) d c (omega arith) (getD-set-same l₂ (i + 2) c 0 (simp length-set (omega arith))));
+        fourth = still l₄ (i + 3) (i + 4) e d (omega arith) (getD-set-same l₃ (i + 3) d 0 (simp length-set (omega arith)));
+        fifth = getD-set-same l₄ (i + 4) e 0 (simp length-set room);
+      }
+
 -- what is stored of a record is read back
-module _ (s : List ℕ) (p ra fl em stop : ℕ) (room : 82 < length s) where
-  abbrev s₁ : List ℕ
-  s₁ = set s 78 p
-
-  abbrev s₂ : List ℕ
-  s₂ = set s₁ 79 ra
-
-  abbrev s₃ : List ℕ
-  s₃ = set s₂ 80 fl
-
-  abbrev s₄ : List ℕ
-  s₄ = set s₃ 81 em
-
-  read-p : getD (withControls s p ra fl em stop) 78 0 ≡ p
-  read-p =
-      still s₄ 78 82 stop p (omega arith)
-      (still s₃ 78 81 em p (omega arith)
-      (still s₂ 78 80 fl p (omega arith) (still s₁ 78 79 ra p (omega arith) (getD-set-same s 78 p 0 (omega arith)))))
-
-  read-ra : getD (withControls s p ra fl em stop) 79 0 ≡ ra
-  read-ra =
-      still s₄ 79 82 stop ra (omega arith)
-      (still s₃ 79 81 em ra (omega arith)
-      (still s₂ 79 80 fl ra (omega arith) (getD-set-same s₁ 79 ra 0 (simp length-set (omega arith)))))
-
-  read-fl : getD (withControls s p ra fl em stop) 80 0 ≡ fl
-  read-fl =
-      still s₄ 80 82 stop fl (omega arith)
-      (still s₃ 80 81 em fl (omega arith) (getD-set-same s₂ 80 fl 0 (simp length-set (omega arith))))
-
-  read-em : getD (withControls s p ra fl em stop) 81 0 ≡ em
-  read-em = still s₄ 81 82 stop em (omega arith) (getD-set-same s₃ 81 em 0 (simp length-set (omega arith)))
-
-  read-stop : getD (withControls s p ra fl em stop) 82 0 ≡ stop
-  read-stop = getD-set-same s₄ 82 stop 0 (simp length-set room)
-
-  pub controls-read : (x : List ℕ)
-      → centralOf x (withControls s p ra fl em stop) ≡ record { p = p; ra = ra; fl = fl; em = em; registers = x; stop = stop }
-  controls-read x = rw (read-p, read-ra, read-fl, read-em, read-stop)
+controls-read : (s : List ℕ) (p ra fl em stop : ℕ) → 82 < length s → (x : List ℕ)
+    → centralOf x (withControls s p ra fl em stop) ≡ record { p = p; ra = ra; fl = fl; em = em; registers = x; stop = stop }
+controls-read s p ra fl em stop room x =
+    let f = five-read s 78 p ra fl em stop room in rw (f .first, f .second, f .third, f .fourth, f .fifth)
 
 pub central-read : (s : List ℕ) (d : Central) → 82 < length s → centralOf (d .registers) (withCentral s d) ≡ d
 central-read s d room = controls-read s (d .p) (d .ra) (d .fl) (d .em) (d .stop) room (d .registers)

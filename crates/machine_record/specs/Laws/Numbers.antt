@@ -14,6 +14,7 @@ use Rattle.exchange.specs.Laws.Indexed.{length-tabulate, getD-tabulate}
 use Rattle.exchange.specs.declared.record.Central.{Central}
 use Rattle.machine.specs.Numbers.{processorOf, flag, isSet, channelOf, centralOf, clockOf}
 use Rattle.machine.specs.Widths.{numberFits, Wide}
+use Rattle.machine.specs.Laws.Widths.{at-p, at-a, at-stop, at-flag, at-word, at-central, at-clock}
 use Rattle.machine.specs.declared.numbers.Processor.{Processor}
 use Rattle.machine_record.specs.declared.record.MachineRecord.{MachineRecord}
 use Rattle.machine_record.specs.Record.{idle, processorAt, channelAt}
@@ -21,22 +22,13 @@ use Rattle.machine_record.specs.Numbers.{processorNumber, channelNumber,
 use Rattle.machine_record.specs.Laws.Entries.{entries-are}
 use Rattle.machine_record.specs.Laws.Record.{FitsMachine}
 
-flag-read : (b : Bool) → isSet (flag b) ≡ b
+pub flag-read : (b : Bool) → isSet (flag b) ≡ b
 flag-read true = refl
 flag-read false = refl
 
 -- past the last place, where 0 is read
 past-fits : (i : ℕ) → 84 ≤ i → numberFits i 0 ≡ true
-unfolding numberFits
-past-fits i l =
-    rw (
-      le-ltb i 10 (omega arith),
-      le-ltb i 20 (omega arith),
-      le-ltb i 30 (omega arith),
-      le-ltb i 66 (omega arith),
-      le-ltb i 78 (omega arith),
-      le-ltb i 83 (omega arith),
-    )
+past-fits i l = at-clock i 0 (omega arith)
 
 module _ (r : MachineRecord) where
   pub count-numbers : length (numbersOf r) ≡ 84
@@ -140,46 +132,39 @@ module _ (r : MachineRecord) where
   -- the widths, place by place
   module _ (n : ℕ) (f : FitsMachine n r) where
     low-fits : (i : ℕ) → i < 30 → numberFits i (numberOf r i) ≡ true
-    unfolding numberFits numberOf processorNumber
+    unfolding numberOf processorNumber
     low-fits i h =
         ⊎-elim
-        (λ g. rw (lt-ltb i 30 h, le-ltb i 10 (omega arith), le-ltb i 20 g) (f .processor (i - 20) (omega arith) .stop-listed))
+        (λ g. at-stop i (numberOf r i) g h
+        ∙ rw (lt-ltb i 30 h, le-ltb i 10 (omega arith), le-ltb i 20 g) (f .processor (i - 20) (omega arith) .stop-listed))
         (λ g. ⊎-elim
-        (λ j. rw (lt-ltb i 30 h, le-ltb i 10 j, lt-ltb i 20 g) (f .processor (i - 10) (omega arith) .a-width))
-        (λ j. rw (lt-ltb i 30 h, lt-ltb i 10 j) (f .processor i j .p-width))
+        (λ j. at-a i (numberOf r i) j g
+        ∙ rw (lt-ltb i 30 h, le-ltb i 10 j, lt-ltb i 20 g) (f .processor (i - 10) (omega arith) .a-width))
+        (λ j. at-p i (numberOf r i) j ∙ rw (lt-ltb i 30 h, lt-ltb i 10 j) (f .processor i j .p-width))
         (le-or-lt 10 i))
         (le-or-lt 20 i)
 
     channel-number-fits : (i : ℕ) → 30 ≤ i → i < 78 → numberFits i (numberOf r i) ≡ true
-    unfolding numberFits numberOf channelNumber
+    unfolding numberOf channelNumber
     channel-number-fits i l h =
         ⊎-elim
-        (λ g. rw (
-          le-ltb i 10 (omega arith),
-          le-ltb i 20 (omega arith),
+        (λ g. at-word i (numberOf r i) g h
+        ∙ rw (
           le-ltb i 30 l,
-          le-ltb i 66 g,
           lt-ltb i 78 h,
           le-ltb (i - 30) 12 (omega arith),
           le-ltb (i - 30) 24 (omega arith),
           le-ltb (i - 30) 36 (omega arith),
         ) (f .channel (i - 30 - 36) (omega arith)))
-        (λ g. rw (le-ltb i 10 (omega arith), le-ltb i 20 (omega arith), le-ltb i 30 l, lt-ltb i 66 g))
+        (λ g. at-flag i (numberOf r i) l g)
         (le-or-lt 66 i)
 
     high-fits : (i : ℕ) → 78 ≤ i → i < 84 → numberFits i (numberOf r i) ≡ true
-    unfolding numberFits numberOf
+    unfolding numberOf
     high-fits i l h =
         ⊎-elim
-        (λ g. let e : i ≡ 83 = omega arith in rw e (f .clock))
-        (λ g. rw (
-          le-ltb i 10 (omega arith),
-          le-ltb i 20 (omega arith),
-          le-ltb i 30 (omega arith),
-          le-ltb i 66 (omega arith),
-          le-ltb i 78 l,
-          lt-ltb i 83 g,
-        ))
+        (λ g. let e : i ≡ 83 = omega arith in rw e (at-clock 83 (r .clock) (omega arith) ∙ f .clock))
+        (λ g. at-central i (numberOf r i) l g)
         (le-or-lt 83 i)
 
     place-fits : (i : ℕ) → i < 84 → numberFits i (numberOf r i) ≡ true

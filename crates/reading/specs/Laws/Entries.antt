@@ -9,7 +9,7 @@ use lib.ListN.{length, take, set, length-append, length-take}
 use lib.Seq.{take-all, take-append-le, take-suc-set, length-take-le}
 use Rattle.line.specs.declared.form.Line.{Line}
 use Rattle.reading.specs.Reading.{Request, readable, afterWords, inBlock, inJobs, inStints}
-use Rattle.reading.specs.Held.{Lists, inUse, readingAt, held, Ready, firsts, keep}
+use Rattle.reading.specs.Held.{Lists, inUse, readingAt, held, Ready, firsts, keep, jobEntries, stintEntries}
 use Rattle.reading.specs.Applied.{LineRead, Applied}
 use Rattle.reading.specs.declared.progress.Part.{Part}
 use Rattle.reading.specs.declared.progress.Part.the-variants as Last
@@ -43,9 +43,9 @@ pub keep-held : (p : Progress) (m : List ℕ) (l : Lists) → Ready p → keep (
 keep-held p m l k =
     keep-at (p .part) (inUse p m l)
     (rw (
-      kept (p .jobs) 17 (l .jobs) (k .jobs),
-      kept (p .stints) 257 (l .stintJobs) (k .stints),
-      kept (p .stints) 257 (l .stintTurns) (k .stints),
+      kept (p .jobs) jobEntries (l .jobs) (k .jobs),
+      kept (p .stints) stintEntries (l .stintJobs) (k .stints),
+      kept (p .stints) stintEntries (l .stintTurns) (k .stints),
     ))
 
 pub applied-line : {line x : Line} {p r : Progress} {m m′ : List ℕ} (l : Lists) → line ≡ x → LineRead x p m r m′ → Applied line p m l r m′ l

@@ -6,7 +6,7 @@ use native.Mathlib.Omega.{arith}
 use lib.ListN.{length, take, set}
 use Rattle.line.specs.declared.form.Line.the-variants.{Job, Stint}
 use Rattle.reading.specs.Reading.{Request, readable, unreadable, inJobs, inStints, jobTo, withJob, withStint, lineTo}
-use Rattle.reading.specs.Held.{lists, inUse, readingAt, jobsInUse, stintsInUse, Ready}
+use Rattle.reading.specs.Held.{lists, inUse, readingAt, jobsInUse, stintsInUse, Ready, jobEntries, stintEntries}
 use Rattle.reading.specs.Applied.{Applied}
 use Rattle.reading.specs.Laws.Entries.{kept, entry-added, entries-full}
 use Rattle.reading.specs.declared.progress.Part.{Part}
@@ -28,46 +28,46 @@ unfolding lineTo
 stint-first part job turns e q = rw e
 
 -- a job more
-module _ (p : Progress) (a : ℕ) (js : List ℕ) (long : length js ≡ 17) (k : Ready p)
+module _ (p : Progress) (a : ℕ) (js : List ℕ) (long : length js ≡ jobEntries) (k : Ready p)
     (added : (q : Request) → lineTo (readingAt (p .part) q) (Job a) ≡ readable inJobs (withJob q a)) where
-  job-held : (n : ℕ) (js′ : List ℕ) → n ≤ 17 → take n js′ ≡ take 17 (take (p .jobs) js ++ (a ∷ []))
+  job-held : (n : ℕ) (js′ : List ℕ) → n ≤ jobEntries → take n js′ ≡ take jobEntries (take (p .jobs) js ++ (a ∷ []))
       → (m ss ts : List ℕ) → Applied (Job a) p m (lists js ss ts) (jobsInUse p n) m (lists js′ ss ts)
   job-held n js′ h e m ss ts =
       record {
         is =
-            rw (added (inUse p m (lists js ss ts)), e, kept (p .stints) 257 ss (k .stints), kept (p .stints) 257 ts (k .stints));
+            rw (added (inUse p m (lists js ss ts)), e, kept (p .stints) stintEntries ss (k .stints), kept (p .stints) stintEntries ts (k .stints));
         ready = record { words = k .words; jobs = h; stints = k .stints };
       }
 
-  pub job-kept : p .jobs < 17 → (m ss ts : List ℕ)
+  pub job-kept : p .jobs < jobEntries → (m ss ts : List ℕ)
       → Applied (Job a) p m (lists js ss ts) (jobsInUse p (p .jobs + 1)) m (lists (set js (p .jobs) a) ss ts)
-  job-kept h = job-held (p .jobs + 1) (set js (p .jobs) a) (omega arith) (entry-added (p .jobs) 17 js a long h)
+  job-kept h = job-held (p .jobs + 1) (set js (p .jobs) a) (omega arith) (entry-added (p .jobs) jobEntries js a long h)
 
-  pub job-over : 17 ≤ p .jobs → (m ss ts : List ℕ)
+  pub job-over : jobEntries ≤ p .jobs → (m ss ts : List ℕ)
       → Applied (Job a) p m (lists js ss ts) (jobsInUse p (p .jobs)) m (lists js ss ts)
-  job-over h = job-held (p .jobs) js (k .jobs) (entries-full (p .jobs) 17 js a long (omega (arith, k .jobs)))
+  job-over h = job-held (p .jobs) js (k .jobs) (entries-full (p .jobs) jobEntries js a long (omega (arith, k .jobs)))
 
 -- a stint more
-module _ (p : Progress) (job turns : ℕ) (ss ts : List ℕ) (long : length ss ≡ 257) (long′ : length ts ≡ 257) (k : Ready p)
+module _ (p : Progress) (job turns : ℕ) (ss ts : List ℕ) (long : length ss ≡ stintEntries) (long′ : length ts ≡ stintEntries) (k : Ready p)
     (added : (q : Request) → lineTo (readingAt (p .part) q) (Stint job turns) ≡ readable inStints (withStint q job turns)) where
-  stint-held : (n : ℕ) (ss′ ts′ : List ℕ) → n ≤ 257 → take n ss′ ≡ take 257 (take (p .stints) ss ++ (job ∷ []))
-      → take n ts′ ≡ take 257 (take (p .stints) ts ++ (turns ∷ []))
+  stint-held : (n : ℕ) (ss′ ts′ : List ℕ) → n ≤ stintEntries → take n ss′ ≡ take stintEntries (take (p .stints) ss ++ (job ∷ []))
+      → take n ts′ ≡ take stintEntries (take (p .stints) ts ++ (turns ∷ []))
       → (m js : List ℕ) → Applied (Stint job turns) p m (lists js ss ts) (stintsInUse p n) m (lists js ss′ ts′)
   stint-held n ss′ ts′ h e f m js =
       record {
-        is = rw (added (inUse p m (lists js ss ts)), e, f, kept (p .jobs) 17 js (k .jobs));
+        is = rw (added (inUse p m (lists js ss ts)), e, f, kept (p .jobs) jobEntries js (k .jobs));
         ready = record { words = k .words; jobs = k .jobs; stints = h };
       }
 
-  pub stint-kept : p .stints < 257 → (m js : List ℕ)
+  pub stint-kept : p .stints < stintEntries → (m js : List ℕ)
       → Applied (Stint job turns) p m (lists js ss ts) (stintsInUse p (p .stints + 1)) m
       (lists js (set ss (p .stints) job) (set ts (p .stints) turns))
   stint-kept h =
       stint-held (p .stints + 1) (set ss (p .stints) job) (set ts (p .stints) turns) (omega arith)
-      (entry-added (p .stints) 257 ss job long h) (entry-added (p .stints) 257 ts turns long′ h)
+      (entry-added (p .stints) stintEntries ss job long h) (entry-added (p .stints) stintEntries ts turns long′ h)
 
-  pub stint-over : 257 ≤ p .stints → (m js : List ℕ)
+  pub stint-over : stintEntries ≤ p .stints → (m js : List ℕ)
       → Applied (Stint job turns) p m (lists js ss ts) (stintsInUse p (p .stints)) m (lists js ss ts)
   stint-over h =
-      stint-held (p .stints) ss ts (k .stints) (entries-full (p .stints) 257 ss job long (omega (arith, k .stints)))
-      (entries-full (p .stints) 257 ts turns long′ (omega (arith, k .stints)))
+      stint-held (p .stints) ss ts (k .stints) (entries-full (p .stints) stintEntries ss job long (omega (arith, k .stints)))
+      (entries-full (p .stints) stintEntries ts turns long′ (omega (arith, k .stints)))

@@ -6,6 +6,7 @@ use Prim.Native.Nat.{ℕ, _+_, _*_, _≤_, _<_}
 use native.Mathlib.Omega.{arith}
 use lib.ListN.{length}
 use Rattle.outcome.specs.declared.refusal.Refusal.{Refusal}
+use Rattle.outcome.specs.declared.refusal.Verdict.{Verdict}
 use Rattle.outcome.specs.declared.refusal.Verdict.the-variants as Call
 use Rattle.machine.specs.Machine.{Machine, machine}
 use Rattle.machine.specs.Widths.{Kept}
@@ -16,7 +17,17 @@ use Rattle.machine_record.specs.declared.record.MachineRecord.{MachineRecord}
 use Rattle.rounds.specs.Rounds.{processorTurned, ran, roundsOf}
 use Rattle.rounds.specs.Laws.Processors.{processor-keeps, own-size}
 use Rattle.rounds.specs.Laws.Rounds.{run-keeps}
-use Rattle.whole.specs.Call.{Left, left, leftBy, LeftByRun, leftByRun, leftAfter, turnTo, turnAnswerBy, turnAnswer, runTo, runAnswerBy, runAnswer}
+use Rattle.whole.specs.Call.{Left, left, leftBy, leftAfter, answerBy}
+
+-- the answer of a call that is carried out, and of one that is refused
+module _ {A B : Type 0} (answer : Verdict → B → A) (v : Verdict) (lent after : Left B) where
+  pub carried-out : v ≡ Call.Accepted → (o : Left B) → o ≡ after
+      → left (o .central) (o .peripheral) (answer Call.Accepted (o .value)) ≡ answerBy answer v lent after
+  carried-out e o h = rw e (ap (answerBy answer Call.Accepted lent) h)
+
+  pub refused : (x : Refusal) → v ≡ Call.Refused x
+      → left (lent .central) (lent .peripheral) (answer (Call.Refused x) (lent .value)) ≡ answerBy answer v lent after
+  refused x e = rw e
 
 module _ (c m : List ℕ) (r : MachineRecord) where
   -- the machine that is lent to turns
@@ -48,32 +59,10 @@ module _ (c m : List ℕ) (r : MachineRecord) where
 
     pub run-is : (n : ℕ) (h : Machine) (made : ℕ) → ran h made ≡ roundsOf n (processorsIn m) (lent s) → (o : MachineRecord)
         → o ≡ recordOf (h .registers) (h .numbers)
-        → leftByRun (h .central) (h .peripheral) (record { machine = o; rounds = made }) ≡ leftAfter (roundsOf n (processorsIn m) (machineOf c m r))
+        → left (h .central) (h .peripheral) (record { machine = o; rounds = made }) ≡ leftAfter (roundsOf n (processorsIn m) (machineOf c m r))
     run-is n h made t o w =
-        ap (λ (x : MachineRecord). leftByRun (h .central) (h .peripheral) (record { machine = x; rounds = made })) w
+        ap (λ (x : MachineRecord). left (h .central) (h .peripheral) (record { machine = x; rounds = made })) w
         ∙ ap leftAfter (t ∙ ap (λ (l : List ℕ). roundsOf n (processorsIn m) (lent l)) e)
-
-  -- the answer of a call that is carried out, and of one that is refused
-  module _ (n : ℕ) where
-    pub turn-carried-out : turnVerdict c m r n ≡ Call.Accepted → (o : Left) → o ≡ leftBy (processorTurned (machineOf c m r) n)
-        → turnTo (o .central) (o .peripheral) (record { verdict = Call.Accepted; machine = o .machine }) ≡ turnAnswer c m r n
-    unfolding turnAnswer
-    turn-carried-out v o e = rw v (ap (turnAnswerBy Call.Accepted c m r) e)
-
-    pub turn-refused : (x : Refusal) → turnVerdict c m r n ≡ Call.Refused x
-        → turnTo c m (record { verdict = Call.Refused x; machine = r }) ≡ turnAnswer c m r n
-    unfolding turnAnswer
-    turn-refused x v = rw v
-
-    pub run-carried-out : runVerdict c m r n ≡ Call.Accepted → (o : LeftByRun) → o ≡ leftAfter (roundsOf n (processorsIn m) (machineOf c m r))
-        → runTo (o .central) (o .peripheral) (record { verdict = Call.Accepted; machine = o .end .machine; rounds = o .end .rounds }) ≡ runAnswer c m r n
-    unfolding runAnswer
-    run-carried-out v o e = rw v (ap (runAnswerBy Call.Accepted c m r) e)
-
-    pub run-refused : (x : Refusal) → runVerdict c m r n ≡ Call.Refused x
-        → runTo c m (record { verdict = Call.Refused x; machine = r; rounds = 0 }) ≡ runAnswer c m r n
-    unfolding runAnswer
-    run-refused x v = rw v
 
   -- what a turn or a run leaves may be lent again
   module _ (a : machineVerdict true c m r ≡ Call.Accepted) (count : length (r .central .registers) ≡ 24) where

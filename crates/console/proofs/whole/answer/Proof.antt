@@ -43,7 +43,7 @@ same-length c = search needs
 returns : tie.Need-returns
 returns c =
     let started = c .before .before .before .before .before .before .before .before .before .before .before .before .before .before .before .before .before .before .start .ensures in
-    let fed = c .before .before .before .before .before .before .before .before .before .before .before .before .before .feed .ensures in
+    let fed = c .before .before .before .before .before .before .before .before .before .before .before .before .before .feed .ensures .is in
     whole-answer _ _ _ _ _ _ _ _ started
     (record { memory = search needs; jobs = search needs; stintJobs = search needs; stintTurns = search needs }) fed (c .before .before .before .finish .ensures)
 

@@ -1,7 +1,7 @@
 -- `whole::call::peripheral_turn` meets its contract. Assumes nothing.
 use mathlib.Core.Path.{sym, _∙_}
-use Rattle.whole.specs.Call.{left}
-use Rattle.whole.specs.Laws.Call.{turn-carried-out, turn-refused}
+use Rattle.whole.specs.Call.{left, turnGiven, turnAnswer}
+use Rattle.whole.specs.Laws.Call.{carried-out, refused}
 use borrow.Author.Needs.{needs}
 use Rattle.whole.proofs.call.peripheral_turn.Statement.{statement}
 use Rattle.whole.proofs.call.peripheral_turn.Tie as tie
@@ -25,11 +25,12 @@ same-length-2 : tie.Need-same-length-2
 same-length-2 c = search needs
 
 returns : tie.Need-returns
+unfolding turnAnswer
 returns c =
     let turn-verdict = c .before .before .before .before .before .before .before .before .before .turn-verdict in
     let enum-told = c .before .before .before .before .before .before .before .enum-told in
     let turn = c .before .before .before .before .turn in
-    turn-carried-out _ _ _ _ (sym (turn-verdict .ensures) ∙ enum-told .given .1) (left _ _ _) (turn .ensures)
+    carried-out turnGiven _ _ _ (sym (turn-verdict .ensures) ∙ enum-told .given .1) (left _ _ _) (turn .ensures)
 
 same-length-3 : tie.Need-same-length-3
 same-length-3 c = search needs
@@ -38,7 +39,8 @@ same-length-4 : tie.Need-same-length-4
 same-length-4 c = search needs
 
 returns-2 : tie.Need-returns-2
-returns-2 c = turn-refused _ _ _ _ _ (sym (c .before .before .before .turn-verdict .ensures) ∙ c .before .r .given .1)
+unfolding turnAnswer
+returns-2 c = refused turnGiven _ _ _ _ (sym (c .before .before .before .turn-verdict .ensures) ∙ c .before .r .given .1)
 
 pub peripheral-turn-spec : {M : Type 1} → statement M
 peripheral-turn-spec =

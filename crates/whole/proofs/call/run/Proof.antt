@@ -1,7 +1,7 @@
 -- `whole::call::run` meets its contract. Assumes nothing.
 use mathlib.Core.Path.{sym, _∙_}
-use Rattle.whole.specs.Call.{leftByRun}
-use Rattle.whole.specs.Laws.Call.{run-carried-out, run-refused}
+use Rattle.whole.specs.Call.{left, runGiven, runAnswer}
+use Rattle.whole.specs.Laws.Call.{carried-out, refused}
 use borrow.Author.Needs.{needs}
 use Rattle.whole.proofs.call.run.Statement.{statement}
 use Rattle.whole.proofs.call.run.Tie as tie
@@ -25,11 +25,12 @@ same-length-2 : tie.Need-same-length-2
 same-length-2 c = search needs
 
 returns : tie.Need-returns
+unfolding runAnswer
 returns c =
     let run-verdict = c .before .before .before .before .before .before .before .before .before .before .run-verdict in
     let enum-told = c .before .before .before .before .before .before .before .before .enum-told in
     let make-rounds = c .before .before .before .before .before .make-rounds in
-    run-carried-out _ _ _ _ (sym (run-verdict .ensures) ∙ enum-told .given .1) (leftByRun _ _ _) (make-rounds .ensures)
+    carried-out runGiven _ _ _ (sym (run-verdict .ensures) ∙ enum-told .given .1) (left _ _ _) (make-rounds .ensures)
 
 same-length-3 : tie.Need-same-length-3
 same-length-3 c = search needs
@@ -38,7 +39,8 @@ same-length-4 : tie.Need-same-length-4
 same-length-4 c = search needs
 
 returns-2 : tie.Need-returns-2
-returns-2 c = run-refused _ _ _ _ _ (sym (c .before .before .before .run-verdict .ensures) ∙ c .before .r .given .1)
+unfolding runAnswer
+returns-2 c = refused runGiven _ _ _ _ (sym (c .before .before .before .run-verdict .ensures) ∙ c .before .r .given .1)
 
 pub run-spec : {M : Type 1} → statement M
 run-spec =
