@@ -3,3 +3,4 @@ pub mod Thin
 pub mod ThinAlone
 pub mod ThinWord
 pub mod DeviceTypes
+pub mod TakeTypes

@@ -57,13 +57,20 @@ module _ (K : Thin) where
   abbrev pub t-vals : K .T .D → List Val
   t-vals = LL.vals (K .T) (K .laws)
 
+  -- an answer's machine value is that of its two fields
+  abbrev pub s-val : K .P .Denot → K .T .D → Val
+  s-val d c = vstruct (vcons (K .p-val d) (vcons (t-val c) vnil))
+
   module _ {M : Type 1} (𝓤 : URA M) (H : Heap 𝓤) (A : Atoms 𝓤) (W : Given 𝓤 H A) where
     pub t-typed : (c : K .T .D) → Is t-row c (t-vals c) → HasType t-type (t-val c)
     t-typed c is = LL.lawful (K .T) (K .laws) 𝓤 H A W .typed c _ is .0
 
+    pub s-val-typed : (d : K .P .Denot) (c : K .T .D) → Is (K .P) d (K .p-val d ∷ []) → Is t-row c (t-vals c)
+        → HasType s-type (s-val d c)
+    s-val-typed d c p-is t-is =
+        as-fields (K .p-type ∷ t-type ∷ []) (K .p-val d ∷ t-val c ∷ []) (K .typed 𝓤 H A W d p-is, (t-typed c t-is, tt))
+
     pub s-typed : (r : K .S .Denot) (v : Val) → Is (K .S) r (v ∷ []) → HasType s-type v
     s-typed r v is =
         let k = K .knows r _ is in
-        subst (HasType s-type) (sym (ap only (k .0)))
-        (as-fields (K .p-type ∷ t-type ∷ []) (K .p-val (K .verdict r) ∷ t-val (K .channel r) ∷ [])
-        (K .typed 𝓤 H A W (K .verdict r) (k .1 .0), (t-typed (K .channel r) (k .1 .1), tt)))
+        subst (HasType s-type) (sym (ap only (k .0))) (s-val-typed (K .verdict r) (K .channel r) (k .1 .0) (k .1 .1))

@@ -58,7 +58,7 @@ module _ (K : Thin) where
   stayed = (stay-ref (0 ∷ []) tt (plain (λ _. t-row K)), tt)
 
   -- g's
-  abbrev value : Ended
+  abbrev pub value : Ended
   value =
       record {
         signature = record { lifetimes = 0; outlives = []; params = plain (λ _. t-row K) ∷ []; result = plain (λ _. K .S) };

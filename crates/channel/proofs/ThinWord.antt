@@ -59,7 +59,7 @@ module _ (K : Thin) where
   stayed = (stay-ref (0 ∷ []) tt (plain (λ _. t-row K)), (stay-none (λ _. u64) yes, tt))
 
   -- g's
-  abbrev value : Ended
+  abbrev pub value : Ended
   value =
       record {
         signature = record { lifetimes = 0; outlives = []; params = plain (λ _. t-row K) ∷ plain (λ _. u64) ∷ []; result = plain (λ _. K .S) };

@@ -3,3 +3,4 @@ pub mod Loan
 pub mod LoanAlone
 pub mod LoanWord
 pub mod DeviceTypes
+pub mod TakeTypes

@@ -28,10 +28,8 @@ use sound.WpLaws.{FmC, fmOf, WpFn-mono}
 use denote.RattleType.{owns}
 use denote.Laws.{Is, shows}
 use denote.Memory.{mem, cellAt}
-use denote.Builtin.{RefMutOf}
 use denote.Ref.{RefT, MutRef}
 use denote.Lend.{lends-ref, ref-back}
-use denote.Signature.{plain}
 use denote.Steps.{only, owned, peeks, heard, nothing}
 use denote.Struct.Steps.{spelt}
 use denote.Struct.Laws as LL
@@ -41,35 +39,15 @@ use denote.Triple.Entry.{onEntry}
 use denote.Triple.Spec.{Meets, tripleOf}
 use denote.Triple.Table.{entered, cited}
 use denote.Triple.Walked.{says, Stays, stay-none, walkOf, goes-none, Walks, ends-at, walked, walk-meets}
-use denote.Triple.Clauses.{Ended, Clauses, closing, ensured, lasts}
+use denote.Triple.Clauses.{closing, ensured, lasts}
 use denote.Exit.{yes}
-use Rattle.lent_channel.proofs.Loan.{Loan, t-row, t-type, s-type, t-val, t-vals, s-val, told, t-typed, s-typed, lies-in, lies-out}
+use Rattle.channel.proofs.Thin.{Thin, t-row, t-type, s-type, t-val, t-vals, s-val, t-typed, s-val-typed}
+use Rattle.channel.proofs.ThinAlone.{value as ended, ended as lent, value-promise as promise, promise as lent-promise}
+use Rattle.lent_channel.proofs.Loan.{Loan, told, p-typed, lies-in, lies-out}
 
-module _ (K : Loan) where
-  -- f's
-  abbrev ended : Ended
-  ended =
-      record {
-        signature = record { lifetimes = 0; outlives = []; params = plain (λ _. t-row K) ∷ []; result = plain (λ _. K .S) };
-        kept = (yes, tt);
-      }
-
-  abbrev stayed : Stays (ended .signature .params) (ended .kept)
+module _ (K : Thin) where
+  abbrev stayed : Stays (ended K .signature .params) (ended K .kept)
   stayed = (stay-none (λ _. t-row K) yes, tt)
-
-  -- g's
-  abbrev lent : Ended
-  lent =
-      record {
-        signature =
-            record {
-              lifetimes = 1;
-              outlives = [];
-              params = RefMutOf (0 ∷ []) tt (plain (λ _. t-row K)) (λ _. tt) ∷ [];
-              result = plain (λ _. K .P);
-            };
-        kept = (yes, tt);
-      }
 
   abbrev function : Name → Fn
   function g =
@@ -93,16 +71,8 @@ module _ (K : Loan) where
             (seq (assign (place 0 []) (aggregate (copy (place 3 []) ∷ copy (place 5 []) ∷ []))) return))));
       }
 
-  module _ {M : Type 1} (𝓤 : URA M) where
-    abbrev promise : (K .T .D → K .S .Denot → Type 0) → Clauses 𝓤 ended
-    promise R κs a = record { ghost = Unit {0}; requires = λ _. emp 𝓤; ensures = λ _ r e. fact 𝓤 (R (a .0) r) }
-
-    abbrev lent-promise : (K .T .D → K .P .Denot → K .T .D → Type 0) → Clauses 𝓤 lent
-    lent-promise Q κs a =
-        record { ghost = Unit {0}; requires = λ _. emp 𝓤; ensures = λ _ r e. fact 𝓤 (Q (a .0 .now) r (e .0 .now)) }
-
-module _ (K : Loan) (Q : K .T .D → K .P .Denot → K .T .D → Type 0) (R : K .T .D → K .S .Denot → Type 0)
-    (so : (h : K .T .D) (d : K .P .Denot) (c : K .T .D) → Q h d c → R h (K .answer d c)) (g : Name)
+module _ (K : Thin) (L : Loan K) (Q : K .T .D → K .P .Denot → K .T .D → Type 0) (R : K .T .D → K .S .Denot → Type 0)
+    (so : (h : K .T .D) (d : K .P .Denot) (c : K .T .D) → Q h d c → R h (L .answer d c)) (g : Name)
     {M : Type 1} (𝓤 : URA M) (H : Heap 𝓤) where
   module _ (A : Atoms 𝓤) where
     abbrev Callee : Contract 𝓤
@@ -119,15 +89,15 @@ module _ (K : Loan) (Q : K .T .D → K .P .Denot → K .T .D → Type 0) (R : K 
         abbrev Post : Val → SProp 𝓤
         Post = walkOf 𝓤 H A (ended K) (stayed K) (promise K 𝓤 R) .post ((tt, tt, tt, (h, tt), at), tt)
 
-        exits : (d : K .P .Denot) (c : K .T .D) → Is (K .S) (K .answer d c) (s-val K d c ∷ []) → Q h d c
+        exits : (d : K .P .Denot) (c : K .T .D) → Is (K .S) (L .answer d c) (s-val K d c ∷ []) → Q h d c
             → ent 𝓤 (sem 𝓤 H A ftrue) (Post (s-val K d c))
         exits d c is e =
             qed W (‵ ftrue ∷ []) ∵
             suffices ! _
-            (ends-at 𝓤 H A (ended K) (stayed K) (promise K 𝓤 R) W ((tt, tt, tt, (h, tt), at), tt) (s-val K d c) (K .answer d c)
-            (K .last h, tt) (tt, tt)) $
+            (ends-at 𝓤 H A (ended K) (stayed K) (promise K 𝓤 R) W ((tt, tt, tt, (h, tt), at), tt) (s-val K d c) (L .answer d c)
+            (L .last h, tt) (tt, tt)) $
             says ! (so h d c e) $
-            owned ! (K .S) (Is (K .S)) (K .makes 𝓤 H A) (K .answer d c) _ is $ nothing ! $
+            owned ! (K .S) (Is (K .S)) (L .makes 𝓤 H A) (L .answer d c) _ is $ nothing ! $
             owned ! (t-row K) (Is (t-row K)) (LL.makes (K .T) (K .plains) 𝓤 H A) h _ h-is $ fjoin ! $ move ! (2 ∷ []) $ done !
 
         -- the reference that is lent, and what g's triple binds outside
@@ -174,8 +144,8 @@ module _ (K : Loan) (Q : K .T .D → K .P .Denot → K .T .D → Type 0) (R : K 
               pick ! (λ zs.
               split ! $ move ! (1 ∷ []) $ heard ! (Q h d (zs .0)) (λ e. fsplit ! $ move ! (2 ∷ []) $ split ! $ move ! (1 ∷ []) $
               peeks ! (K .P) (Is (K .P)) (shows 𝓤 H A (K .P)) d (v ∷ []) (λ d-is.
-              land ! (from ! (stop !)) (init ! 9 refl (K .p-typed 𝓤 H A W d v d-is)) $
-              rewrite ! 9 (λ (u : Val). ‵ (fat fullShare (K .p-type) l₃ 0 u)) (ap only (K .p-tells d _ d-is)) refl $
+              land ! (from ! (stop !)) (init ! 9 refl (p-typed K L 𝓤 H A W d v d-is)) $
+              rewrite ! 9 (λ (u : Val). ‵ (fat fullShare (K .p-type) l₃ 0 u)) (ap only (L .p-tells d _ d-is)) refl $
               -- the lifetime is ended, and the local comes back at that record
               move ! (1 ∷ []) $ split ! $ lft-end ! tt $ move ! (0 ∷ 5 ∷ 3 ∷ []) $
               use3 W (later (‵ (mem (t-row K) .lies (zs .0) l₂ 0))) (ref-back 𝓤 H A W (t-row K) (ν ∷ []) γ (zs .0) l₂ 0) $ await ! tt $
@@ -189,12 +159,12 @@ module _ (K : Loan) (Q : K .T .D → K .P .Denot → K .T .D → Type 0) (R : K 
               assigns ! (of-opd ! (load ! (from ! (stop !)) (look ! 0 refl))) (from ! (stop !)) (init ! 5 refl (t-typed K 𝓤 H A W (zs .0) z-is)) $
               assigns !
               (agg ! (and-then ! (load ! (from ! (stop !)) (look ! 9 refl)) (and-then ! (load ! (from ! (stop !)) (look ! 5 refl)) (no-more !))))
-              (from ! (stop !)) (init ! 14 refl (s-typed K 𝓤 H A W d (zs .0) (told K d v d-is) z-is)) $
+              (from ! (stop !)) (init ! 14 refl (s-val-typed K 𝓤 H A W d (zs .0) (told K L d v d-is) z-is)) $
               returns ! (look ! 14 refl) $
               forget ! 0 refl $ forget ! 5 refl $ forget ! 7 refl $ forget ! 9 refl $ forget ! 12 refl $ forget ! 14 refl $
               move ! (14 ∷ 15 ∷ []) $ free1 ! $ move ! (12 ∷ 13 ∷ []) $ free1 ! $ move ! (0 ∷ 11 ∷ []) $ free1 ! $
               move ! (8 ∷ 9 ∷ []) $ free1 ! $ move ! (6 ∷ 7 ∷ []) $ free1 ! $ move ! (4 ∷ 5 ∷ []) $ free1 ! $ free0 ! $
-              keep ! (1 ∷ []) $ by ! (exits d (zs .0) (K .made d (zs .0) (told K d v d-is) z-is) e))))))))))))))))
+              keep ! (1 ∷ []) $ by ! (exits d (zs .0) (L .made d (zs .0) (told K L d v d-is) z-is) e))))))))))))))))
 
       walks : (C : Calls 𝓤 H) (Λ : Loops 𝓤 H) → FmC 𝓤 H (W .laws) C → Triple 𝓤 (C g) Callee
           → Walks 𝓤 H A (ended K) (stayed K) (WpFn 𝓤 H C Λ (function K g)) (promise K 𝓤 R)
@@ -206,7 +176,7 @@ module _ (K : Loan) (Q : K .T .D → K .P .Denot → K .T .D → Type 0) (R : K 
       meets : (𝓣 : Tables 𝓤 H) → Triple 𝓤 (𝓣 .C g) Callee
           → Meets 𝓤 H A (ended K .signature) (WpFn 𝓤 H (𝓣 .C) (𝓣 .Λ) (function K g)) (closing 𝓤 H A (ended K) (promise K 𝓤 R))
       meets 𝓣 known =
-          walk-meets 𝓤 H A (ended K) (stayed K) W (goes-none 𝓤 H A W 0 (λ _. t-row K) yes (λ κs. K .silent), tt)
+          walk-meets 𝓤 H A (ended K) (stayed K) W (goes-none 𝓤 H A W 0 (λ _. t-row K) yes (λ κs. L .silent), tt)
           (promise K 𝓤 R) (WpFn 𝓤 H (𝓣 .C) (𝓣 .Λ) (function K g))
           (WpFn-mono 𝓤 H (W .laws) 𝓣 (function K g)) (walks (𝓣 .C) (𝓣 .Λ) (fmOf 𝓤 H (W .laws) 𝓣) known)
 

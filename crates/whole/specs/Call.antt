@@ -36,17 +36,17 @@ abbrev pub answerBy : {A B : Type 0} → (Verdict → B → A) → Verdict → L
 answerBy answer Call.Accepted lent after = left (after .central) (after .peripheral) (answer Call.Accepted (after .value))
 answerBy answer (Call.Refused x) lent after = left (lent .central) (lent .peripheral) (answer (Call.Refused x) (lent .value))
 
--- a turn of peripheral processor n: 1 to 5
 abbrev pub turnGiven : Verdict → MachineRecord → TurnAnswer
 turnGiven v r = record { verdict = v; machine = r }
 
+-- a turn of peripheral processor n: 1 to 5
 unfoldable pub turnAnswer : List ℕ → List ℕ → MachineRecord → ℕ → Left TurnAnswer
 turnAnswer c m r n = answerBy turnGiven (turnVerdict c m r n) (left c m r) (leftBy (processorTurned (machineOf c m r) n))
 
--- a run of n rounds of all processors that are there: 1 to 5, 8
 abbrev pub runGiven : Verdict → Ran → RunAnswer
 runGiven v o = record { verdict = v; machine = o .machine; rounds = o .rounds }
 
+-- a run of n rounds of all processors that are there: 1 to 5, 8
 unfoldable pub runAnswer : List ℕ → List ℕ → MachineRecord → ℕ → Left RunAnswer
 runAnswer c m r n =
     answerBy runGiven (runVerdict c m r n) (left c m (record { machine = r; rounds = 0 }))

@@ -3,7 +3,8 @@ use mathlib.Core.Path.{_≡_}
 use Rattle.channel.specs.Device.{putOf, Puts}
 use Rattle.channel.proofs.device.put.Symbol as g
 use Rattle.channel.proofs.device.put.Met as g-thm
-use Rattle.lent_channel.proofs.DeviceTypes.{types}
+use Rattle.channel.proofs.DeviceTypes.{types}
+use Rattle.lent_channel.proofs.DeviceTypes.{loan}
 use Rattle.lent_channel.proofs.LoanWord.{proved}
 use Rattle.lent_channel.proofs.put.Key as key
 use Rattle.lent_channel.proofs.put.Statement as stated
@@ -13,5 +14,5 @@ use Rattle.lent_channel.proofs.put.Code as code
 pub put-spec : {M : Type 1} → stated.statement M
 unfolding code.routine
 put-spec 𝓤 H 𝓜 𝓖 𝓡 =
-    proved types Puts (λ c word r. r ≡ putOf c word) (λ c word v d e. e) g.name 𝓤 H 𝓜 𝓖 𝓡 code.env key.name g.routine
+    proved types loan Puts (λ c word r. r ≡ putOf c word) (λ c word v d e. e) g.name 𝓤 H 𝓜 𝓖 𝓡 code.env key.name g.routine
     code.calls-channel·device·put (code.unfolded 𝓤 H 𝓜 𝓡) (g-thm.met 𝓤 H 𝓜 𝓖 𝓡)

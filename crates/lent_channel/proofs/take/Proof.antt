@@ -1,47 +1,18 @@
 -- `lent_channel::take` meets its contract: the walk of `LoanAlone`, at `channel::device::take`. Assumes nothing.
-use mathlib.Core.Path.{_≡_, refl}
-use denote.Memory.{pointee}
-use denote.Struct.Laws as LL
-use denote.Enum.Laws as EL
+use mathlib.Core.Path.{_≡_}
 use Rattle.channel.specs.Device.{takeOf, Takes}
-use Rattle.channel.proofs.record.Channel as T
-use Rattle.channel.proofs.record.Channel.Laws as T′
-use Rattle.channel.proofs.device.Taken as P
-use Rattle.channel.proofs.device.Taken.Laws as P′
-use Rattle.channel.proofs.device.TakeAnswer as S
-use Rattle.channel.proofs.device.TakeAnswer.Laws as S′
 use Rattle.channel.proofs.device.take.Symbol as g
 use Rattle.channel.proofs.device.take.Met as g-thm
-use Rattle.lent_channel.proofs.Loan.{Loan}
+use Rattle.channel.proofs.TakeTypes.{types}
+use Rattle.lent_channel.proofs.TakeTypes.{loan}
 use Rattle.lent_channel.proofs.LoanAlone.{proved}
 use Rattle.lent_channel.proofs.take.Key as key
 use Rattle.lent_channel.proofs.take.Statement as stated
 use Rattle.lent_channel.proofs.take.Code as code
 
-abbrev types : Loan
-types =
-    record {
-      T = T.the-type;
-      laws = T′.the-laws;
-      plains = T′.the-plain;
-      bare = pointee (T.the-row .written);
-      last = λ c. tt;
-      silent = λ c w. refl;
-      P = P.the-row;
-      p-type = P′.mir;
-      p-val = EL.val P.the-type P′.the-laws;
-      p-tells = EL.tells P.the-type P′.the-laws;
-      p-typed = λ 𝓤 H A W d v is. EL.lawful P.the-type P′.the-laws 𝓤 H A W tt .typed d _ is .0;
-      S = S.the-row;
-      s-name = S.the-type .name;
-      answer = λ v c. record { verdict = v; channel = c };
-      made = λ v c v-is c-is. LL.owes S.the-type S′.the-laws (record { verdict = v; channel = c }) (v-is, (c-is, tt));
-      makes = LL.makes S.the-type S′.the-plain;
-    }
-
 -- what the call on the lent channel answers is what the contract says of the answer by value
 pub take-spec : {M : Type 1} → stated.statement M
 unfolding code.routine
 take-spec 𝓤 H 𝓜 𝓖 𝓡 =
-    proved types Takes (λ c r. r ≡ takeOf c) (λ c v d e. e) g.name 𝓤 H 𝓜 𝓖 𝓡 code.env key.name g.routine
+    proved types loan Takes (λ c r. r ≡ takeOf c) (λ c v d e. e) g.name 𝓤 H 𝓜 𝓖 𝓡 code.env key.name g.routine
     code.calls-channel·device·take (code.unfolded 𝓤 H 𝓜 𝓡) (g-thm.met 𝓤 H 𝓜 𝓖 𝓡)

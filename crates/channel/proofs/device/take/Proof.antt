@@ -1,45 +1,15 @@
 -- `channel::device::take` meets its contract: the walk of `ThinAlone`, at `take_value`. Assumes nothing.
 use mathlib.Core.Path.{_≡_}
-use denote.Memory.{pointee}
-use denote.Struct.Laws as LL
-use denote.Enum.Laws as EL
 use Rattle.channel.specs.declared.record.Channel.{Channel}
 use Rattle.channel.specs.declared.device.TakeAnswer.{TakeAnswer}
 use Rattle.channel.specs.Device.{takeOf, Takes}
-use Rattle.channel.proofs.Thin.{Thin}
+use Rattle.channel.proofs.TakeTypes.{types}
 use Rattle.channel.proofs.ThinAlone.{proved}
-use Rattle.channel.proofs.record.Channel as T
-use Rattle.channel.proofs.record.Channel.Laws as T′
-use Rattle.channel.proofs.device.TakeAnswer as S
-use Rattle.channel.proofs.device.TakeAnswer.Laws as S′
-use Rattle.channel.proofs.device.Taken as P
-use Rattle.channel.proofs.device.Taken.Laws as P′
 use Rattle.channel.proofs.device.take_value.Symbol as g
 use Rattle.channel.proofs.device.take_value.Met as g-thm
 use Rattle.channel.proofs.device.take.Key as key
 use Rattle.channel.proofs.device.take.Statement as stated
 use Rattle.channel.proofs.device.take.Code as code
-
-abbrev types : Thin
-types =
-    record {
-      T = T.the-type;
-      laws = T′.the-laws;
-      plains = T′.the-plain;
-      bare = pointee (T.the-row .written);
-      P = P.the-row;
-      p-type = P′.mir;
-      p-val = EL.val P.the-type P′.the-laws;
-      S = S.the-row;
-      s-name = S.the-type .name;
-      verdict = λ r. r .verdict;
-      channel = λ r. r .channel;
-      knows =
-          λ r vs is. let owed = LL.owed S.the-type S′.the-laws r vs is in
-          (LL.tells S.the-type S′.the-laws r vs is, (owed .0, owed .1 .0));
-      typed = λ 𝓤 H A W d is. EL.lawful P.the-type P′.the-laws 𝓤 H A W tt .typed d _ is .0;
-      makes = λ 𝓤 H A W. EL.makes P.the-type P′.the-plain 𝓤 H A;
-    }
 
 -- what the call by value answers is what the contract says of the verdict and the channel
 answers : (c : Channel) (r : TakeAnswer) → r ≡ takeOf c → Takes c (r .verdict) (r .channel)
