@@ -11,7 +11,7 @@ use Rattle.outcome.specs.declared.refusal.Verdict.{Verdict}
 use Rattle.outcome.specs.declared.refusal.Verdict.the-variants as Call
 use Rattle.instruction.specs.Registers.{bOf}
 use Rattle.exchange.specs.declared.record.Central.{Central}
-use Rattle.exchange.specs.Indexed.{all}
+use Rattle.exchange.specs.Indexed.{allBelow}
 
 -- the record with the processor running
 abbrev pub running : Central → Central
@@ -29,16 +29,16 @@ abbrev pub registerFits : List ℕ → ℕ → Bool
 registerFits registers i = ltb (getD registers i 0) (2 ^ registerWidth i)
 
 unfoldable pub registersFit : List ℕ → Bool
-registersFit registers = all 24 (registerFits registers)
+registersFit registers = allBelow 24 (registerFits registers)
 
 -- 5 "record value over its width, a stop not listed for that processor, stray EM bit, nonzero B0, or RA + FL past the memory":
 -- none of these. P, RA and FL have 18 bits, the central stops are 1 to 5, and 0 is none.
 unfoldable pub recordFits : ℕ → Central → Bool
-recordFits length c =
+recordFits words c =
     ltb (c .p) (2 ^ 18)
     && ltb (c .ra) (2 ^ 18)
     && ltb (c .fl) (2 ^ 18)
-    && leb (c .ra + c .fl) length
+    && leb (c .ra + c .fl) words
     && leb (c .stop) 5
     && eqb (bOf (c .registers) 0) 0
     && emFits (c .em)
@@ -62,7 +62,7 @@ abbrev pub wordFits : List ℕ → ℕ → Bool
 wordFits m i = ltb (getD m i 0) (2 ^ 60)
 
 unfoldable pub wordsFit : List ℕ → Bool
-wordsFit m = all (length m) (wordFits m)
+wordsFit m = allBelow (length m) (wordFits m)
 
 -- "1 central length", "3 central word over 60 bits", 5, lowest first
 unfoldable pub hostVerdict : List ℕ → Central → Verdict

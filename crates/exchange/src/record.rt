@@ -50,8 +50,8 @@ pub fn registers_fit(registers: [u64; 24]) -> bool
 }
 
 // Number 5 does not refuse the record. RA and FL are added once both are known to have 18 bits.
-pub fn record_fits(c: Central, length: u64) -> bool
-    ensures { λ r. ⌜ r ≡ recordFits length c ⌝ }
+pub fn record_fits(c: Central, words: u64) -> bool
+    ensures { λ r. ⌜ r ≡ recordFits words c ⌝ }
 {
     if 0o777777 < c.p {
         return false;
@@ -62,7 +62,7 @@ pub fn record_fits(c: Central, length: u64) -> bool
     if 0o777777 < c.fl {
         return false;
     }
-    if length < c.ra + c.fl {
+    if words < c.ra + c.fl {
         return false;
     }
     if 5 < c.stop {
@@ -93,13 +93,13 @@ pub fn words_fit(m: &[u64]) -> bool
 }
 
 // Number 1: central memory has 1 to 131,072 words.
-pub fn length_fits(length: usize) -> bool
-    ensures { λ r. ⌜ r ≡ lengthFits length ⌝ }
+pub fn length_fits(words: usize) -> bool
+    ensures { λ r. ⌜ r ≡ lengthFits words ⌝ }
 {
-    if length == 0 {
+    if words == 0 {
         return false;
     }
-    length <= 131072
+    words <= 131072
 }
 
 // Numbers 1, 3 and 5 on a lent memory and record, lowest first.

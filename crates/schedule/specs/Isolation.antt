@@ -46,17 +46,17 @@ ofJob i [] xs = []
 ofJob i (j ∷ js) [] = []
 ofJob i (j ∷ js) (x ∷ xs) = cond (eqb j i) (x ∷ ofJob i js xs) (ofJob i js xs)
 
-unfoldable pub sum : List ℕ → ℕ
-sum [] = 0
-sum (x ∷ xs) = x + sum xs
+unfoldable pub total : List ℕ → ℕ
+total [] = 0
+total (x ∷ xs) = x + total xs
 
 -- "The turns asked of a job are the sum over its stints in the list, the turns it made the sum of the counts of turns made in them;
 -- both are 0 without a stint."
 abbrev pub turnsAsked : Schedule → ℕ → ℕ
-turnsAsked s i = sum (ofJob i (s .stintJobs) (s .stintTurns))
+turnsAsked s i = total (ofJob i (s .stintJobs) (s .stintTurns))
 
 abbrev pub turnsMade : Schedule → ℕ → ℕ
-turnsMade s i = sum (ofJob i (s .stintJobs) (scheduleEnd s .turns))
+turnsMade s i = total (ofJob i (s .stintJobs) (scheduleEnd s .turns))
 
 -- the last entry, or 0 without one
 unfoldable pub lastOf : List ℕ → ℕ

@@ -7,7 +7,7 @@ use lib.ListN.{length, getD}
 use Rattle.outcome.specs.declared.refusal.Refusal.the-variants as Refusal
 use Rattle.outcome.specs.declared.refusal.Verdict.the-variants as Call
 use Rattle.outcome.specs.declared.refusal.Verdict.{Verdict}
-use Rattle.exchange.specs.Indexed.{all}
+use Rattle.exchange.specs.Indexed.{allBelow}
 use Rattle.exchange.specs.Jump.{recordAt}
 use Rattle.exchange.specs.Memory.{part}
 use Rattle.exchange.specs.Package.{hasStray}
@@ -29,11 +29,11 @@ listsFit jobs js ts =
 
 -- 7 "stint of no listed job"; "jobs and stints are numbered from 0"
 unfoldable pub jobsListed : List ℕ → List ℕ → Bool
-jobsListed jobs js = all (length js) (λ i. ltb (getD js i 0) (length jobs))
+jobsListed jobs js = allBelow (length js) (λ i. ltb (getD js i 0) (length jobs))
 
 -- 8 "a stint over 65,535 turns"
 unfoldable pub turnsFit : List ℕ → Bool
-turnsFit ts = all (length ts) (λ i. leb (getD ts i 0) 65535)
+turnsFit ts = allBelow (length ts) (λ i. leb (getD ts i 0) 65535)
 
 -- 6 to 8: the schedule writer's
 unfoldable pub listsVerdict : List ℕ → List ℕ → List ℕ → Verdict
@@ -46,7 +46,7 @@ listsVerdict jobs js ts =
 
 -- a test of every job's package address
 abbrev pub everyJob : List ℕ → (ℕ → Bool) → Bool
-everyJob jobs test = all (length jobs) (λ i. test (getD jobs i 0))
+everyJob jobs test = allBelow (length jobs) (λ i. test (getD jobs i 0))
 
 -- 9 "package past the end"
 unfoldable pub packageInside : List ℕ → ℕ → Bool
@@ -79,7 +79,7 @@ jobsApart m jobs i j =
     && (eqb i j || (not (packagesMeet (getD jobs i 0) (getD jobs j 0)) && not (fieldsMeet m (getD jobs i 0) (getD jobs j 0))))
 
 unfoldable pub allApart : List ℕ → List ℕ → Bool
-allApart m jobs = all (length jobs) (λ i. all (length jobs) (jobsApart m jobs i))
+allApart m jobs = allBelow (length jobs) (λ i. allBelow (length jobs) (jobsApart m jobs i))
 
 -- 9 to 12: the package owners'
 unfoldable pub ownersVerdict : List ℕ → List ℕ → Verdict

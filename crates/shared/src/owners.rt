@@ -9,7 +9,7 @@ ghost use mathlib.Core.Bool.{true};
 ghost use mathlib.Core.Path.{_≡_};
 ghost use Prim.Native.Nat.{_+_, _≤_, _<_};
 ghost use lib.ListN.{length};
-ghost use Rattle.exchange.specs.Indexed.{all};
+ghost use Rattle.exchange.specs.Indexed.{allBelow};
 ghost use Rattle.schedule.specs.Refusals.{everyJob, packageInside, packageClean, fieldInside, jobsApart, allApart, ownersVerdict};
 ghost use Rattle.shared.specs.Owners.{Inside};
 
@@ -17,10 +17,10 @@ ghost use Rattle.shared.specs.Owners.{Inside};
 fn packages_inside(m: &[u64], jobs: &[u64]) -> bool
     ensures { λ r. ⌜ r ≡ everyJob (now (jobs .entry)) (packageInside (now (m .entry))) ⌝ }
 {
-    let length = m.len() as u64;
+    let words = m.len() as u64;
     let mut i: usize = 0;
     while i < jobs.len() {
-        if !package_is_inside(length, jobs[i]) {
+        if !package_is_inside(words, jobs[i]) {
             return false;
         }
         i = i + 1;
@@ -94,7 +94,7 @@ fn jobs_apart(m: &[u64], jobs: &[u64], i: usize, j: usize) -> bool
 fn apart_from_all(m: &[u64], jobs: &[u64], i: usize) -> bool
     requires { ⌜ Inside (now m) (now jobs) ⌝ }
     requires { ⌜ i < length (now jobs) ⌝ }
-    ensures { λ r. ⌜ r ≡ all (length (now (jobs .entry))) (jobsApart (now (m .entry)) (now (jobs .entry)) i) ⌝ }
+    ensures { λ r. ⌜ r ≡ allBelow (length (now (jobs .entry))) (jobsApart (now (m .entry)) (now (jobs .entry)) i) ⌝ }
 {
     let mut j: usize = 0;
     while j < jobs.len() {

@@ -16,7 +16,7 @@ use Rattle.word.specs.Laws.Bits.{bits-lt}
 use Rattle.word.specs.Laws.Choice.{of-getD, le-or-lt}
 use Rattle.instruction.specs.Registers.{aOf, bOf, xOf}
 use Rattle.exchange.specs.declared.record.Central.{Central}
-use Rattle.exchange.specs.Indexed.{all, tabulate}
+use Rattle.exchange.specs.Indexed.{allBelow, tabulate}
 use Rattle.exchange.specs.Record.{emFits, registerWidth, recordFits, running, FitsPackage}
 use Rattle.exchange.specs.Package.{controls, packageWord, coded, registerIn, controlIn, decoded, bitsInUse, wordHasNoStray, hasStray}
 use Rattle.word.specs.Laws.Tests.{both}
@@ -125,8 +125,8 @@ pub record NoStray (w : List ℕ) : Type 0 where
 pub no-stray : (w : List ℕ) → hasStray w ≡ false → NoStray w
 unfolding hasStray
 no-stray w h =
-    let h₂ = both (all 8 (wordHasNoStray w) && eqb (bits (getD w 0 0) 0 18) 0) (emFits (controlIn w 3)) (not-false _ h) in
-    let h₁ = both (all 8 (wordHasNoStray w)) (eqb (bits (getD w 0 0) 0 18) 0) (h₂ .0) in
+    let h₂ = both (allBelow 8 (wordHasNoStray w) && eqb (bits (getD w 0 0) 0 18) 0) (emFits (controlIn w 3)) (not-false _ h) in
+    let h₁ = both (allBelow 8 (wordHasNoStray w)) (eqb (bits (getD w 0 0) 0 18) 0) (h₂ .0) in
     record {
       word-width = λ n l. ltb-true (getD w n 0) (2 ^ bitsInUse n) (all-at (wordHasNoStray w) 8 (h₁ .0) n l);
       b0-zero = eqb-true (bits (getD w 0 0) 0 18) 0 (h₁ .1);

@@ -12,7 +12,7 @@ use Rattle.word.specs.Bits.{bits}
 use Rattle.word.specs.Laws.Choice.{le-or-lt}
 use Rattle.instruction.specs.Registers.{aOf, bOf, xOf}
 use Rattle.exchange.specs.declared.record.Central.{Central}
-use Rattle.exchange.specs.Indexed.{all}
+use Rattle.exchange.specs.Indexed.{allBelow}
 use Rattle.exchange.specs.Record.{emFits, registerWidth, registerFits, registersFit, recordFits, FitsPackage, wordsFit}
 use Rattle.word.specs.Laws.Tests.{both}
 use Rattle.exchange.specs.Laws.Indexed.{all-at, all-of}
@@ -98,14 +98,14 @@ abbrev pub below : ℕ → List ℕ → ℕ → Bool
 below B m i = ltb (getD m i 0) B
 
 module _ (B : ℕ) (m : List ℕ) where
-  pub all-below : 0 < B → all (length m) (below B m) ≡ true → (i : ℕ) → getD m i 0 < B
+  pub all-below : 0 < B → allBelow (length m) (below B m) ≡ true → (i : ℕ) → getD m i 0 < B
   all-below z h i =
       ⊎-elim
       (λ l. rw (List·getD-eq-default m 0 {n = i} l) z)
       (λ l. ltb-true (getD m i 0) B (all-at (below B m) (length m) h i l))
       (le-or-lt (length m) i)
 
-  pub of-all-below : ((i : ℕ) → getD m i 0 < B) → all (length m) (below B m) ≡ true
+  pub of-all-below : ((i : ℕ) → getD m i 0 < B) → allBelow (length m) (below B m) ≡ true
   of-all-below h = all-of (below B m) (length m) (λ i l. lt-ltb (getD m i 0) B (h i))
 
 pub word-width : (m : List ℕ) → wordsFit m ≡ true → (i : ℕ) → getD m i 0 < 2 ^ 60

@@ -9,7 +9,7 @@ use lib.ListN.{length}
 use Rattle.outcome.specs.declared.refusal.Refusal.the-variants as Refusal
 use Rattle.outcome.specs.declared.refusal.Verdict.the-variants as Call
 use Rattle.outcome.specs.declared.refusal.Verdict.{Verdict}
-use Rattle.exchange.specs.Indexed.{all}
+use Rattle.exchange.specs.Indexed.{allBelow}
 use Rattle.exchange.specs.Jump.{recordAt, packageVerdict}
 use Rattle.exchange.specs.Laws.Verdicts.{of-host-accepted, of-package-accepted}
 use Rattle.exchange.specs.Memory.{part}
@@ -30,7 +30,7 @@ module _ (m : List ℕ) (at n : ℕ) where
   unlessTooMany fit = cond fit Call.Accepted (Call.Refused Refusal.TooManyTurns)
 
   one-list : listsVerdict (at ∷ []) (0 ∷ []) (n ∷ []) ≡ unlessTooMany (leb n 65535)
-  unfolding listsVerdict listsFit jobsListed turnsFit all
+  unfolding listsVerdict listsFit jobsListed turnsFit allBelow
   one-list = refl
 
   -- the order of the tests of one package, and of its field against it
@@ -55,7 +55,7 @@ module _ (m : List ℕ) (at n : ℕ) where
   in-order false p f s = refl
 
   one-owner : ownersVerdict m (at ∷ []) ≡ orElse (packageVerdict m at) (overlapVerdict m at)
-  unfolding ownersVerdict packageInside packageClean fieldInside allApart jobsApart all packageVerdict overlapVerdict
+  unfolding ownersVerdict packageInside packageClean fieldInside allApart jobsApart allBelow packageVerdict overlapVerdict
   one-owner = in-order (leb (at + 16) (length m)) (hasStray (part m at 16)) (leb (recordAt m at .ra + recordAt m at .fl) (length m)) meets
 
   turns-tested : (fit : Bool) → leb n 65535 ≡ fit → (later : Verdict)

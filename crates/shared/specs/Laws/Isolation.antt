@@ -9,7 +9,7 @@ use Rattle.outcome.specs.declared.refusal.Verdict.the-variants as Call
 use Rattle.outcome.specs.declared.refusal.Verdict.{Verdict}
 use Rattle.exchange.specs.declared.record.Central.{Central}
 use Rattle.single.specs.Stint.{stintOf}
-use Rattle.schedule.specs.Isolation.{Accepted, start, packageIn, fieldIn, ofJob, sum, lastOf, NoneButLast, Alike, OutsideJobs}
+use Rattle.schedule.specs.Isolation.{Accepted, start, packageIn, fieldIn, ofJob, total, lastOf, NoneButLast, Alike, OutsideJobs}
 use Rattle.schedule.specs.Laws.Isolation.{isolation, rest-kept, record-kept}
 use Rattle.schedule.specs.Laws.Refusals.{accepted-lists}
 use Rattle.schedule.specs.Refusals.{scheduleVerdict}
@@ -31,7 +31,7 @@ stopsOfJob s i = ofJob i (s .stintJobs) (scheduleAnswer s .answer .stops)
 pub record AnswersAlike (s : Schedule) (i : ℕ) (s′ : Schedule) (i′ : ℕ) : Type 0 where
   pub packages : packageIn s i (scheduleAnswer s .memory) ≡ packageIn s′ i′ (scheduleAnswer s′ .memory)
   pub fields : fieldIn s i (scheduleAnswer s .memory) ≡ fieldIn s′ i′ (scheduleAnswer s′ .memory)
-  pub made : sum (turnsOfJob s i) ≡ sum (turnsOfJob s′ i′)
+  pub made : total (turnsOfJob s i) ≡ total (turnsOfJob s′ i′)
   pub stop : lastOf (stopsOfJob s i) ≡ lastOf (stopsOfJob s′ i′)
 
 -- the answer's verdict
