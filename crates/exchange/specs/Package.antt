@@ -22,7 +22,7 @@ packageWord c n = cond (ltb n 8) (getD (controls c) n 0 * 2 ^ 36 + aOf (c .regis
 unfoldable pub coded : Central → List ℕ
 coded c = tabulate 16 (packageWord c)
 
--- the register at place i of a record: A0 to A7, B0 to B7, X0 to X7
+-- the register that has place i in a record, from the words of a package: A0 to A7, B0 to B7, X0 to X7
 unfoldable pub registerIn : List ℕ → ℕ → ℕ
 registerIn w i =
     cond (ltb i 8) (bits (getD w i 0) 18 18) (cond (ltb i 16) (bits (getD w (i - 8) 0) 0 18) (getD w (i - 8) 0))

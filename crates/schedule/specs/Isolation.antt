@@ -1,4 +1,6 @@
--- Demand 3, in the order of document 01, "Words of demand 3". Laws.Isolation proves it. Assumes nothing.
+-- Demand 3, in the order of document 01, "Words of demand 3". Laws.Isolation proves it. Five quotes are the words of demand 3
+-- itself, as the product states it, and not document 01's: at `StopsInLastOnly`, the first at `Alike`, at `EndsAlike`, the first at
+-- `Isolation`, and at `RestKept`. Assumes nothing.
 use mathlib.Core.Bool.{cond}
 use mathlib.Core.List.{List, [], _∷_}
 use mathlib.Core.Logic.{_⊎_}

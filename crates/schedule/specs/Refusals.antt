@@ -16,31 +16,34 @@ use Rattle.single.specs.Order.{orElse}
 use Rattle.single.specs.Overlap.{sharesWord}
 use Rattle.schedule.specs.Schedule.{Schedule}
 
--- 6 "no job, over 16 jobs, over 256 stints, or lists of unequal length": none of these
 abbrev pub mostJobs : ℕ
 mostJobs = 16
 
 abbrev pub mostStints : ℕ
 mostStints = 256
 
+-- 6 "no job, over 16 jobs, over 256 stints, or lists of unequal length": none of these
 unfoldable pub listsFit : List ℕ → List ℕ → List ℕ → Bool
-listsFit jobs js ts =
-    leb 1 (length jobs) && leb (length jobs) mostJobs && leb (length js) mostStints && eqb (length js) (length ts)
+listsFit jobs stintJobs stintTurns =
+    leb 1 (length jobs)
+    && leb (length jobs) mostJobs
+    && leb (length stintJobs) mostStints
+    && eqb (length stintJobs) (length stintTurns)
 
 -- 7 "stint of no listed job"; "jobs and stints are numbered from 0"
 unfoldable pub jobsListed : List ℕ → List ℕ → Bool
-jobsListed jobs js = allBelow (length js) (λ i. ltb (getD js i 0) (length jobs))
+jobsListed jobs stintJobs = allBelow (length stintJobs) (λ i. ltb (getD stintJobs i 0) (length jobs))
 
 -- 8 "a stint over 65,535 turns"
 unfoldable pub turnsFit : List ℕ → Bool
-turnsFit ts = allBelow (length ts) (λ i. leb (getD ts i 0) 65535)
+turnsFit stintTurns = allBelow (length stintTurns) (λ i. leb (getD stintTurns i 0) 65535)
 
 -- 6 to 8: the schedule writer's
 unfoldable pub listsVerdict : List ℕ → List ℕ → List ℕ → Verdict
-listsVerdict jobs js ts =
-    cond (listsFit jobs js ts)
-    (cond (jobsListed jobs js)
-    (cond (turnsFit ts) Call.Accepted (Call.Refused Refusal.TooManyTurns))
+listsVerdict jobs stintJobs stintTurns =
+    cond (listsFit jobs stintJobs stintTurns)
+    (cond (jobsListed jobs stintJobs)
+    (cond (turnsFit stintTurns) Call.Accepted (Call.Refused Refusal.TooManyTurns))
     (Call.Refused Refusal.UnlistedJob))
     (Call.Refused Refusal.ListLength)
 

@@ -6,7 +6,8 @@ use lib.Bits.{bitAnd, bitOr, bitXor, differ}
 use lib.ListN.{getD}
 use Rattle.word.specs.Sums.{complement}
 
--- the results of 10 to 17 for the operands Xj and Xk
+-- 10 to 17, by document 004: "TRANSMIT Xj to Xi", "LOGICAL PRODUCT of Xj and Xk to Xi", "LOGICAL SUM of Xj and Xk to Xi", "LOGICAL
+-- DIFFERENCE of Xj and Xk to Xi", "TRANSMIT Xk COMPLEMENT to Xi", and 11 to 13 again with "Xk COMPLEMENT" in place of Xk
 abbrev pub logicalResults : ℕ → ℕ → List ℕ
 logicalResults xj xk =
     xj
