@@ -13,10 +13,6 @@ use Rattle.instruction.specs.Registers.{bOf}
 use Rattle.exchange.specs.declared.record.Central.{Central}
 use Rattle.exchange.specs.Indexed.{allBelow}
 
--- the record with the processor running
-abbrev pub running : Central → Central
-running c = record { p = c .p; ra = c .ra; fl = c .fl; em = c .em; registers = c .registers; stop = 0 }
-
 -- "EM has the bits 010000 (address), 020000 and 040000": bits 12 to 14, and no other
 unfoldable pub emFits : ℕ → Bool
 emFits em = eqb em (bits em 12 3 * 2 ^ 12)

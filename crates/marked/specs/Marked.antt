@@ -14,10 +14,10 @@ use Rattle.shift.specs.Floating.{magnitude, coefficientOf, exponentFrom, expone
 use Rattle.instruction.specs.Instruction.{constantAt, decoded, isLong, isLeftOut, isFit, parcelsOf}
 use Rattle.instruction.specs.Effects.{branchOf, effectOf}
 use Rattle.central.specs.State.{State, state}
-use Rattle.central.specs.Address.{placeOf}
+use Rattle.central.specs.Address.{bounds, placeOf}
 use Rattle.central.specs.Apply.{returnJumped, applied}
 use Rattle.central.specs.Turn.{ranAt, turned, turnEnd, parcelsRun, wordRun, turnOf}
-use Rattle.central.specs.Laws.Place.{bounds, place-back}
+use Rattle.central.specs.Laws.Place.{place-back}
 use Rattle.central.specs.declared.address.Bounds.{Bounds}
 use Rattle.machine.specs.Numbers.{processorOf, advanced}
 use Rattle.machine.specs.Machine.{Machine, machine}

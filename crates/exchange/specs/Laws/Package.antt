@@ -17,7 +17,7 @@ use Rattle.word.specs.Laws.Choice.{of-getD, le-or-lt}
 use Rattle.instruction.specs.Registers.{aOf, bOf, xOf}
 use Rattle.exchange.specs.declared.record.Central.{Central}
 use Rattle.exchange.specs.Indexed.{allBelow, tabulate}
-use Rattle.exchange.specs.Record.{emFits, registerWidth, recordFits, running, FitsPackage}
+use Rattle.exchange.specs.Record.{emFits, registerWidth, recordFits, FitsPackage}
 use Rattle.exchange.specs.Package.{controls, packageWord, coded, registerIn, controlIn, decoded, bitsInUse, wordHasNoStray, hasStray}
 use Rattle.word.specs.Laws.Tests.{both}
 use Rattle.exchange.specs.Laws.Indexed.{all-at, all-of, length-tabulate, getD-tabulate}
@@ -100,6 +100,10 @@ module _ (c : Central) (w : FitsPackage c) where
       let t = length-tabulate (registerIn (coded c)) 24 in
       ext-getD 0 (tabulate 24 (registerIn (coded c))) (c .registers) (t ∙ sym l)
       (λ i h. getD-tabulate (registerIn (coded c)) 24 i (omega arith) ∙ register-back i (omega arith))
+
+-- the record with the processor running
+abbrev pub running : Central → Central
+running c = record { p = c .p; ra = c .ra; fl = c .fl; em = c .em; registers = c .registers; stop = 0 }
 
 record-path : (c d : Central)
     → c .p ≡ d .p → c .ra ≡ d .ra → c .fl ≡ d .fl → c .em ≡ d .em → c .registers ≡ d .registers → running c ≡ running d

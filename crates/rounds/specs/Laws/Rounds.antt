@@ -10,7 +10,7 @@ use lib.Dec.{lit≤}
 use lib.ListN.{length}
 use Rattle.word.specs.Laws.Choice.{of-cond}
 use Rattle.exchange.specs.Indexed.{allBelow}
-use Rattle.exchange.specs.Laws.Verdicts.{HostAccepted}
+use Rattle.exchange.specs.Accepted.{HostAccepted}
 use Rattle.machine.specs.Numbers.{centralStop, clockOf}
 use Rattle.machine.specs.Machine.{Machine, machine, CentralSide}
 use Rattle.machine.specs.Widths.{Kept}

@@ -10,7 +10,8 @@ use Rattle.outcome.specs.declared.refusal.Verdict.the-variants as Call
 use Rattle.exchange.specs.Jump.{recordAt}
 use Rattle.word.specs.Laws.Tests.{both}
 use Rattle.exchange.specs.Laws.Indexed.{all-at}
-use Rattle.exchange.specs.Laws.Verdicts.{by-test, HostAccepted, PackageAccepted, host-accepted}
+use Rattle.exchange.specs.Accepted.{HostAccepted, PackageAccepted}
+use Rattle.exchange.specs.Laws.Verdicts.{by-test, host-accepted}
 use Rattle.exchange.specs.Memory.{part}
 use Rattle.exchange.specs.Package.{hasStray}
 use Rattle.exchange.specs.Record.{hostVerdict}

@@ -7,9 +7,9 @@ use Rattle.central.specs.Laws.Run.{RunLeft, run-left, turns-then-turns}
 use Rattle.central.specs.State.{state}
 use Rattle.central.specs.Turn.{turnsBefore, turnsOf}
 use Rattle.central.specs.Widths.{Kept}
-use Rattle.exchange.specs.Laws.Package.{decoded-coded}
+use Rattle.exchange.specs.Laws.Package.{running, decoded-coded}
 use Rattle.exchange.specs.Package.{coded, decoded}
-use Rattle.exchange.specs.Record.{FitsPackage, running}
+use Rattle.exchange.specs.Record.{FitsPackage}
 use Rattle.exchange.specs.declared.record.Central.{Central}
 use Rattle.single.specs.Field.{boundsOf, recordAfter}
 use Rattle.single.specs.Laws.Field.{after-fits-package}
