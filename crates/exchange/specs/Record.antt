@@ -53,12 +53,13 @@ pub record FitsPackage (c : Central) : Type 0 where
 abbrev pub lengthFits : ℕ → Bool
 lengthFits n = leb 1 n && leb n 131072
 
--- "words of 60 bits"
-abbrev pub wordFits : List ℕ → ℕ → Bool
-wordFits m i = ltb (getD m i 0) (2 ^ 60)
+-- the entry at i is below a limit
+abbrev pub below : ℕ → List ℕ → ℕ → Bool
+below limit m i = ltb (getD m i 0) limit
 
+-- "words of 60 bits"
 unfoldable pub wordsFit : List ℕ → Bool
-wordsFit m = allBelow (length m) (wordFits m)
+wordsFit m = allBelow (length m) (below (2 ^ 60) m)
 
 -- "1 central length", "3 central word over 60 bits", 5, lowest first
 unfoldable pub hostVerdict : List ℕ → Central → Verdict

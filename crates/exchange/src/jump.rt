@@ -10,7 +10,7 @@ ghost use Prim.Native.Nat.{_+_, _≤_};
 ghost use lib.Dec.{leb};
 ghost use lib.ListN.{length};
 ghost use Rattle.exchange.specs.Record.{FitsPackage};
-ghost use Rattle.exchange.specs.Jump.{packageVerdict, exchangedTo, exchanged};
+ghost use Rattle.exchange.specs.Jump.{fieldInside, packageVerdict, exchangedTo, exchanged};
 
 // The sixteen words from this address up are in a memory of so many words. The address is any number, so 16 is not added to it.
 pub fn package_is_inside(words: u64, at: u64) -> bool
@@ -20,6 +20,15 @@ pub fn package_is_inside(words: u64, at: u64) -> bool
         return false;
     }
     at <= words - 16
+}
+
+// Number 11 does not refuse the package at this address.
+pub fn field_inside(m: &[u64], at: usize) -> bool
+    requires { ⌜ at + 16 ≤ length (now m) ⌝ }
+    ensures { λ r. ⌜ r ≡ fieldInside (now (m .entry)) at ⌝ }
+{
+    let c = load(m, at);
+    c.ra + c.fl <= m.len() as u64
 }
 
 // Numbers 9, 10 and 11 on the package at this address, lowest first.
@@ -32,8 +41,7 @@ pub fn package_verdict(m: &[u64], at: u64) -> Verdict
         if has_stray(m, place) {
             return Verdict::Refused(Refusal::StrayBits);
         }
-        let c = load(m, place);
-        if words < c.ra + c.fl {
+        if !field_inside(m, place) {
             return Verdict::Refused(Refusal::FieldPastEnd);
         }
         return Verdict::Accepted;

@@ -3,7 +3,9 @@ use outcome::refusal::Refusal;
 use outcome::refusal::Verdict;
 ghost use mathlib.Core.Path.{_≡_};
 ghost use Prim.Native.Nat.{_^_};
-ghost use Rattle.exchange.specs.Record.{emFits, registerWidth, registersFit, recordFits, lengthFits, wordsFit, hostVerdict};
+ghost use lib.ListN.{length};
+ghost use Rattle.exchange.specs.Indexed.{allBelow};
+ghost use Rattle.exchange.specs.Record.{emFits, registerWidth, registersFit, recordFits, lengthFits, below, wordsFit, hostVerdict};
 
 // The central processor's record.
 pub struct Central {
@@ -18,7 +20,7 @@ pub struct Central {
 }
 
 // Only the bits 010000, 020000 and 040000 are set.
-pub fn em_fits(em: u64) -> bool
+pub(crate) fn em_fits(em: u64) -> bool
     ensures { λ r. ⌜ r ≡ emFits em ⌝ }
 {
     em == ((em >> 12) & 7) << 12
@@ -35,7 +37,7 @@ fn register_limit(i: usize) -> u64
 }
 
 // Each register has its width.
-pub fn registers_fit(registers: [u64; 24]) -> bool
+fn registers_fit(registers: [u64; 24]) -> bool
     ensures { λ r. ⌜ r ≡ registersFit registers ⌝ }
 {
     let mut i: usize = 0;
@@ -78,18 +80,25 @@ pub fn record_fits(c: Central, words: u64) -> bool
     false
 }
 
-// Each word of memory has 60 bits.
-pub fn words_fit(m: &[u64]) -> bool
-    ensures { λ r. ⌜ r ≡ wordsFit (now (m .entry)) ⌝ }
+// Each entry is below this limit.
+pub fn all_below(m: &[u64], limit: u64) -> bool
+    ensures { λ r. ⌜ r ≡ allBelow (length (now (m .entry))) (below limit (now (m .entry))) ⌝ }
 {
     let mut i: usize = 0;
     while i < m.len() {
-        if 0o77777777777777777777 < m[i] {
+        if limit <= m[i] {
             return false;
         }
         i = i + 1;
     }
     true
+}
+
+// Each word of memory has 60 bits.
+pub fn words_fit(m: &[u64]) -> bool
+    ensures { λ r. ⌜ r ≡ wordsFit (now (m .entry)) ⌝ }
+{
+    all_below(m, 0o100000000000000000000)
 }
 
 // Number 1: central memory has 1 to 131,072 words.

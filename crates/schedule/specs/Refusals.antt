@@ -1,19 +1,18 @@
 -- Which schedules are refused, by document 01, "Who can be turned down": "Lowest number first, over all jobs before the next number". Assumes nothing.
 use mathlib.Core.Bool.{Bool, not, _&&_, _||_, cond}
 use mathlib.Core.List.{List}
-use Prim.Native.Nat.{ℕ, _+_}
-use lib.Dec.{ltb, leb, eqb}
+use Prim.Native.Nat.{ℕ}
+use lib.Dec.{leb, eqb}
 use lib.ListN.{length, getD}
 use Rattle.outcome.specs.declared.refusal.Refusal.the-variants as Refusal
 use Rattle.outcome.specs.declared.refusal.Verdict.the-variants as Call
 use Rattle.outcome.specs.declared.refusal.Verdict.{Verdict}
 use Rattle.exchange.specs.Indexed.{allBelow}
-use Rattle.exchange.specs.Jump.{recordAt}
-use Rattle.exchange.specs.Memory.{part}
-use Rattle.exchange.specs.Package.{hasStray}
-use Rattle.exchange.specs.Record.{hostVerdict}
+use Rattle.exchange.specs.Jump.{recordAt, packageInside, packageClean, fieldInside}
+use Rattle.exchange.specs.Record.{below, hostVerdict}
 use Rattle.single.specs.Order.{orElse}
 use Rattle.single.specs.Overlap.{sharesWord}
+use Rattle.single.specs.Program.{mostTurns}
 use Rattle.schedule.specs.Schedule.{Schedule}
 
 abbrev pub mostJobs : ℕ
@@ -32,11 +31,11 @@ listsFit jobs stintJobs stintTurns =
 
 -- 7 "stint of no listed job"; "jobs and stints are numbered from 0"
 unfoldable pub jobsListed : List ℕ → List ℕ → Bool
-jobsListed jobs stintJobs = allBelow (length stintJobs) (λ i. ltb (getD stintJobs i 0) (length jobs))
+jobsListed jobs stintJobs = allBelow (length stintJobs) (below (length jobs) stintJobs)
 
 -- 8 "a stint over 65,535 turns"
 unfoldable pub turnsFit : List ℕ → Bool
-turnsFit stintTurns = allBelow (length stintTurns) (λ i. leb (getD stintTurns i 0) 65535)
+turnsFit stintTurns = allBelow (length stintTurns) (λ i. leb (getD stintTurns i 0) mostTurns)
 
 -- 6 to 8: the schedule writer's
 unfoldable pub listsVerdict : List ℕ → List ℕ → List ℕ → Verdict
@@ -50,18 +49,6 @@ listsVerdict jobs stintJobs stintTurns =
 -- a test of every job's package address
 abbrev pub everyJob : List ℕ → (ℕ → Bool) → Bool
 everyJob jobs test = allBelow (length jobs) (λ i. test (getD jobs i 0))
-
--- 9 "package past the end"
-unfoldable pub packageInside : List ℕ → ℕ → Bool
-packageInside m at = leb (at + 16) (length m)
-
--- 10 "stray bits"
-unfoldable pub packageClean : List ℕ → ℕ → Bool
-packageClean m at = not (hasStray (part m at 16))
-
--- 11 "RA + FL past the end"
-unfoldable pub fieldInside : List ℕ → ℕ → Bool
-fieldInside m at = leb (recordAt m at .ra + recordAt m at .fl) (length m)
 
 -- the package at a against the field of the package at b
 abbrev pub packageMeetsField : List ℕ → ℕ → ℕ → Bool

@@ -18,7 +18,8 @@ use Rattle.exchange.specs.Record.{emFits, registersFit, recordFits, hostVerdict
 use Rattle.exchange.specs.Laws.Record.{of-word-width}
 use Rattle.exchange.specs.Laws.Verdicts.{of-host-accepted}
 use Rattle.single.specs.Order.{orElse}
-use Rattle.schedule.specs.Refusals.{listsFit, jobsListed, turnsFit, listsVerdict, everyJob, packageInside, packageClean, fieldInside, allApart, ownersVerdict, scheduleVerdict}
+use Rattle.exchange.specs.Jump.{packageInside, packageClean, fieldInside}
+use Rattle.schedule.specs.Refusals.{listsFit, jobsListed, turnsFit, listsVerdict, everyJob, allApart, ownersVerdict, scheduleVerdict}
 use Rattle.reading.specs.Reading.{Request, Part, readable, readingOf}
 use Rattle.reading.specs.Laws.Memory.{InputMemory, input-memory}
 use Rattle.console.specs.Console.{zeroRecord, scheduleIn}
