@@ -9,6 +9,10 @@ use Rattle.central.specs.declared.address.Absolute.{Absolute}
 use Rattle.central.specs.declared.address.Place.{Place}
 use Rattle.central.specs.declared.address.Place.the-variants.{Inside, Outside}
 
+-- RA, FL and EM
+abbrev pub bounds : ℕ → ℕ → ℕ → Bounds
+bounds ra fl em = record { ra = ra; fl = fl; em = em }
+
 -- "A relative address turns absolute only through the field test: it is below FL, and RA is added."
 unfoldable pub placeOf : Bounds → Relative → Place
 placeOf b a = cond (ltb (a .0) (b .fl)) (Inside (record { 0 = b .ra + a .0 })) Outside

@@ -25,7 +25,7 @@ pub record After : Type 0 where
 abbrev pub after : List ℕ → List ℕ → Step → After
 after r f s = record { state = state r f; step = s }
 
--- EM bit 010000
+-- EM bit 010000, which is bit 12
 abbrev pub stopsOutside : Bounds → Bool
 stopsOutside b = eqb (bit (b .em) 12) 1
 
@@ -35,6 +35,7 @@ unfoldable pub referred : State → Bounds → ℕ → Place → ℕ → After
 referred s b i (Inside a) n =
     cond (ltb i 6) (after (setX (s .registers) i (getD (s .field) (indexOf b a) 0)) (s .field) (Then.Next n))
     (after (s .registers) (set (s .field) (indexOf b a) (xOf (s .registers) i)) (Then.Next n))
+-- Stop 2: "operand outside the field with EM bit 010000".
 referred s b i Outside n =
     cond (stopsOutside b) (after (s .registers) (s .field) (Then.Stop Because.OperandOutside))
     (cond (ltb i 6) (after (setX (s .registers) i 0) (s .field) (Then.Next n)) (after (s .registers) (s .field) (Then.Next n)))

@@ -20,7 +20,7 @@ use Rattle.central.specs.declared.apply.Step.{Step}
 use Rattle.central.specs.declared.turn.TurnEnd.{TurnEnd}
 use Rattle.central.specs.declared.turn.RunEnd.{RunEnd}
 
--- nothing of a stopping instruction is kept
+-- stops 4 and 5 come before the instruction does anything
 abbrev pub stoppedBy : State → CentralStop → After
 stoppedBy s c = after (s .registers) (s .field) (Then.Stop c)
 
@@ -91,7 +91,7 @@ abbrev pub afterTurn : (ℕ → State → Run) → Turn → Run
 afterTurn rest t =
     cond (eqb (t .end .stop) 0) (turnsBefore 1 (rest (t .end .p) (t .state))) (ran (t .state) (runEnd (t .end .p) (t .end .stop) 1))
 
--- up to n turns; a stop ends them, and the stopping turn counts
+-- up to n turns, ended early by a stop. "The count of turns made is the number of turns the definition takes, the stopping one included."
 unfoldable pub turnsOf : ℕ → Bounds → ℕ → State → Run
 turnsOf zero b p s = ran s (runEnd p 0 0)
 turnsOf (suc n) b p s = afterTurn (turnsOf n b) (turnOf b p s)

@@ -25,7 +25,7 @@ pub enum Step {
     Stop(CentralStop),
 }
 
-// The place of EM's bit 010000.
+// EM bit 010000, which is bit 12.
 const ADDRESS_BIT: u64 = 12;
 
 // A1 to A7 was set: the read into Xi, or the store of Xi. Outside the field a read gives zero and a store is dropped, or,
@@ -47,6 +47,7 @@ fn refer(r: &mut [u64; 24], f: &mut [u64], b: Bounds, i: usize, p: Place, next: 
             Step::Next(next)
         }
         Place::Outside => {
+            // Stop 2: operand outside the field with EM bit 010000.
             if (b.em >> ADDRESS_BIT) & 1 == 1 {
                 return Step::Stop(CentralStop::OperandOutside);
             }

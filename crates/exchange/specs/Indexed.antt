@@ -4,9 +4,9 @@ use mathlib.Core.Bool.{Bool, true, _&&_}
 use mathlib.Core.List.{List, [], _∷_, _++_}
 
 -- the test holds of each number below n
-unfoldable pub all : ℕ → (ℕ → Bool) → Bool
-all zero test = true
-all (suc n) test = all n test && test n
+unfoldable pub allBelow : ℕ → (ℕ → Bool) → Bool
+allBelow zero test = true
+allBelow (suc n) test = allBelow n test && test n
 
 -- the entries 0 to n - 1
 unfoldable pub tabulate : ℕ → (ℕ → ℕ) → List ℕ

@@ -1,6 +1,6 @@
 -- The exchange jump, by document 01, "Memory and records" and "Who can be turned down". Assumes nothing.
 use Prim.Native.Nat.{ℕ, _+_}
-use mathlib.Core.Bool.{cond}
+use mathlib.Core.Bool.{Bool, not, cond}
 use mathlib.Core.List.{List}
 use lib.Dec.{leb}
 use lib.ListN.{length}
@@ -15,12 +15,25 @@ use Rattle.exchange.specs.Package.{coded, decoded, hasStray}
 abbrev pub recordAt : List ℕ → ℕ → Central
 recordAt m at = decoded (part m at 16)
 
--- "9 package past the end; 10 stray bits; 11 RA + FL past the end", lowest first
+-- 9 "package past the end": not this one
+unfoldable pub packageInside : List ℕ → ℕ → Bool
+packageInside m at = leb (at + 16) (length m)
+
+-- 10 "stray bits": none
+unfoldable pub packageClean : List ℕ → ℕ → Bool
+packageClean m at = not (hasStray (part m at 16))
+
+-- 11 "RA + FL past the end": not here
+unfoldable pub fieldInside : List ℕ → ℕ → Bool
+fieldInside m at = leb (recordAt m at .ra + recordAt m at .fl) (length m)
+
+-- 9, 10 and 11, lowest first
 unfoldable pub packageVerdict : List ℕ → ℕ → Verdict
 packageVerdict m at =
-    cond (leb (at + 16) (length m))
-    (cond (hasStray (part m at 16)) (Call.Refused Refusal.StrayBits)
-    (cond (leb (recordAt m at .ra + recordAt m at .fl) (length m)) Call.Accepted (Call.Refused Refusal.FieldPastEnd)))
+    cond (packageInside m at)
+    (cond (packageClean m at)
+    (cond (fieldInside m at) Call.Accepted (Call.Refused Refusal.FieldPastEnd))
+    (Call.Refused Refusal.StrayBits))
     (Call.Refused Refusal.PackagePastEnd)
 
 -- memory and record after an exchange jump

@@ -7,4 +7,6 @@ pub mod Memory
 pub mod Package
 -- the exchange jump, and numbers 9, 10 and 11
 pub mod Jump
+-- what no number refuses
+pub mod Accepted
 pub mod Laws

@@ -7,7 +7,7 @@ use lib.ListN.{getD}
 use Rattle.word.specs.Bits.{bits}
 use Rattle.instruction.specs.Registers.{aOf, bOf, xOf}
 use Rattle.exchange.specs.declared.record.Central.{Central}
-use Rattle.exchange.specs.Indexed.{all, tabulate}
+use Rattle.exchange.specs.Indexed.{allBelow, tabulate}
 use Rattle.exchange.specs.Record.{emFits}
 
 -- "Bits 53 to 36 of words 0 to 3 hold P, RA, FL, EM."
@@ -22,7 +22,7 @@ packageWord c n = cond (ltb n 8) (getD (controls c) n 0 * 2 ^ 36 + aOf (c .regis
 unfoldable pub coded : Central → List ℕ
 coded c = tabulate 16 (packageWord c)
 
--- the register at place i of a record: A0 to A7, B0 to B7, X0 to X7
+-- the register that has place i in a record, from the words of a package: A0 to A7, B0 to B7, X0 to X7
 unfoldable pub registerIn : List ℕ → ℕ → ℕ
 registerIn w i =
     cond (ltb i 8) (bits (getD w i 0) 18 18) (cond (ltb i 16) (bits (getD w (i - 8) 0) 0 18) (getD w (i - 8) 0))
@@ -53,4 +53,4 @@ wordHasNoStray w n = ltb (getD w n 0) (2 ^ bitsInUse n)
 
 -- "All other bits, B0's included, are stray and must be zero."
 unfoldable pub hasStray : List ℕ → Bool
-hasStray w = not (all 8 (wordHasNoStray w) && eqb (bits (getD w 0 0) 0 18) 0 && emFits (controlIn w 3))
+hasStray w = not (allBelow 8 (wordHasNoStray w) && eqb (bits (getD w 0 0) 0 18) 0 && emFits (controlIn w 3))

@@ -11,11 +11,7 @@ use Rattle.outcome.specs.declared.refusal.Verdict.{Verdict}
 use Rattle.outcome.specs.declared.refusal.Verdict.the-variants as Call
 use Rattle.instruction.specs.Registers.{bOf}
 use Rattle.exchange.specs.declared.record.Central.{Central}
-use Rattle.exchange.specs.Indexed.{all}
-
--- the record with the processor running
-abbrev pub running : Central → Central
-running c = record { p = c .p; ra = c .ra; fl = c .fl; em = c .em; registers = c .registers; stop = 0 }
+use Rattle.exchange.specs.Indexed.{allBelow}
 
 -- "EM has the bits 010000 (address), 020000 and 040000": bits 12 to 14, and no other
 unfoldable pub emFits : ℕ → Bool
@@ -29,16 +25,16 @@ abbrev pub registerFits : List ℕ → ℕ → Bool
 registerFits registers i = ltb (getD registers i 0) (2 ^ registerWidth i)
 
 unfoldable pub registersFit : List ℕ → Bool
-registersFit registers = all 24 (registerFits registers)
+registersFit registers = allBelow 24 (registerFits registers)
 
 -- 5 "record value over its width, a stop not listed for that processor, stray EM bit, nonzero B0, or RA + FL past the memory":
 -- none of these. P, RA and FL have 18 bits, the central stops are 1 to 5, and 0 is none.
 unfoldable pub recordFits : ℕ → Central → Bool
-recordFits length c =
+recordFits words c =
     ltb (c .p) (2 ^ 18)
     && ltb (c .ra) (2 ^ 18)
     && ltb (c .fl) (2 ^ 18)
-    && leb (c .ra + c .fl) length
+    && leb (c .ra + c .fl) words
     && leb (c .stop) 5
     && eqb (bOf (c .registers) 0) 0
     && emFits (c .em)
@@ -57,12 +53,13 @@ pub record FitsPackage (c : Central) : Type 0 where
 abbrev pub lengthFits : ℕ → Bool
 lengthFits n = leb 1 n && leb n 131072
 
--- "words of 60 bits"
-abbrev pub wordFits : List ℕ → ℕ → Bool
-wordFits m i = ltb (getD m i 0) (2 ^ 60)
+-- the entry at i is below a limit
+abbrev pub below : ℕ → List ℕ → ℕ → Bool
+below limit m i = ltb (getD m i 0) limit
 
+-- "words of 60 bits"
 unfoldable pub wordsFit : List ℕ → Bool
-wordsFit m = all (length m) (wordFits m)
+wordsFit m = allBelow (length m) (below (2 ^ 60) m)
 
 -- "1 central length", "3 central word over 60 bits", 5, lowest first
 unfoldable pub hostVerdict : List ℕ → Central → Verdict

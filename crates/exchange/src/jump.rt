@@ -10,30 +10,38 @@ ghost use Prim.Native.Nat.{_+_, _≤_};
 ghost use lib.Dec.{leb};
 ghost use lib.ListN.{length};
 ghost use Rattle.exchange.specs.Record.{FitsPackage};
-ghost use Rattle.exchange.specs.Jump.{packageVerdict, exchangedTo, exchanged};
+ghost use Rattle.exchange.specs.Jump.{fieldInside, packageVerdict, exchangedTo, exchanged};
 
-// The sixteen words from this address up are in a memory of this length. The address is any number, so 16 is not added to it.
-pub fn package_is_inside(length: u64, at: u64) -> bool
-    ensures { λ r. ⌜ r ≡ leb (at + 16) length ⌝ }
+// The sixteen words from this address up are in a memory of so many words. The address is any number, so 16 is not added to it.
+pub fn package_is_inside(words: u64, at: u64) -> bool
+    ensures { λ r. ⌜ r ≡ leb (at + 16) words ⌝ }
 {
-    if length < 16 {
+    if words < 16 {
         return false;
     }
-    at <= length - 16
+    at <= words - 16
+}
+
+// Number 11 does not refuse the package at this address.
+pub fn field_inside(m: &[u64], at: usize) -> bool
+    requires { ⌜ at + 16 ≤ length (now m) ⌝ }
+    ensures { λ r. ⌜ r ≡ fieldInside (now (m .entry)) at ⌝ }
+{
+    let c = load(m, at);
+    c.ra + c.fl <= m.len() as u64
 }
 
 // Numbers 9, 10 and 11 on the package at this address, lowest first.
 pub fn package_verdict(m: &[u64], at: u64) -> Verdict
     ensures { λ r. ⌜ r ≡ packageVerdict (now (m .entry)) at ⌝ }
 {
-    let length = m.len() as u64;
-    if package_is_inside(length, at) {
+    let words = m.len() as u64;
+    if package_is_inside(words, at) {
         let place = at as usize;
         if has_stray(m, place) {
             return Verdict::Refused(Refusal::StrayBits);
         }
-        let c = load(m, place);
-        if length < c.ra + c.fl {
+        if !field_inside(m, place) {
             return Verdict::Refused(Refusal::FieldPastEnd);
         }
         return Verdict::Accepted;

@@ -5,7 +5,7 @@ ghost use mathlib.Core.Path.{_≡_};
 ghost use Prim.Native.Nat.{_+_, _^_, _≤_, _<_};
 ghost use lib.ListN.{length, getD};
 ghost use Rattle.word.specs.Bits.{bits};
-ghost use Rattle.exchange.specs.Indexed.{all, tabulate};
+ghost use Rattle.exchange.specs.Indexed.{allBelow, tabulate};
 ghost use Rattle.exchange.specs.Record.{FitsPackage};
 ghost use Rattle.exchange.specs.Memory.{part};
 ghost use Rattle.exchange.specs.Package.{controls, packageWord, coded, registerIn, decoded, bitsInUse, wordHasNoStray, hasStray};
@@ -127,7 +127,7 @@ fn word_limit(n: usize) -> u64
 // No bit is set above P, RA, FL and EM in words 0 to 3, and none above A in words 4 to 7.
 fn words_have_no_stray(w: &[u64]) -> bool
     requires { ⌜ length (now w) ≡ 16 ⌝ }
-    ensures { λ r. ⌜ r ≡ all 8 (wordHasNoStray (now (w .entry))) ⌝ }
+    ensures { λ r. ⌜ r ≡ allBelow 8 (wordHasNoStray (now (w .entry))) ⌝ }
 {
     let mut n: usize = 0;
     while n < 8 {

@@ -3,7 +3,9 @@ use outcome::refusal::Refusal;
 use outcome::refusal::Verdict;
 ghost use mathlib.Core.Path.{_≡_};
 ghost use Prim.Native.Nat.{_^_};
-ghost use Rattle.exchange.specs.Record.{emFits, registerWidth, registersFit, recordFits, lengthFits, wordsFit, hostVerdict};
+ghost use lib.ListN.{length};
+ghost use Rattle.exchange.specs.Indexed.{allBelow};
+ghost use Rattle.exchange.specs.Record.{emFits, registerWidth, registersFit, recordFits, lengthFits, below, wordsFit, hostVerdict};
 
 // The central processor's record.
 pub struct Central {
@@ -18,7 +20,7 @@ pub struct Central {
 }
 
 // Only the bits 010000, 020000 and 040000 are set.
-pub fn em_fits(em: u64) -> bool
+pub(crate) fn em_fits(em: u64) -> bool
     ensures { λ r. ⌜ r ≡ emFits em ⌝ }
 {
     em == ((em >> 12) & 7) << 12
@@ -35,7 +37,7 @@ fn register_limit(i: usize) -> u64
 }
 
 // Each register has its width.
-pub fn registers_fit(registers: [u64; 24]) -> bool
+fn registers_fit(registers: [u64; 24]) -> bool
     ensures { λ r. ⌜ r ≡ registersFit registers ⌝ }
 {
     let mut i: usize = 0;
@@ -50,8 +52,8 @@ pub fn registers_fit(registers: [u64; 24]) -> bool
 }
 
 // Number 5 does not refuse the record. RA and FL are added once both are known to have 18 bits.
-pub fn record_fits(c: Central, length: u64) -> bool
-    ensures { λ r. ⌜ r ≡ recordFits length c ⌝ }
+pub fn record_fits(c: Central, words: u64) -> bool
+    ensures { λ r. ⌜ r ≡ recordFits words c ⌝ }
 {
     if 0o777777 < c.p {
         return false;
@@ -62,7 +64,7 @@ pub fn record_fits(c: Central, length: u64) -> bool
     if 0o777777 < c.fl {
         return false;
     }
-    if length < c.ra + c.fl {
+    if words < c.ra + c.fl {
         return false;
     }
     if 5 < c.stop {
@@ -78,13 +80,13 @@ pub fn record_fits(c: Central, length: u64) -> bool
     false
 }
 
-// Each word of memory has 60 bits.
-pub fn words_fit(m: &[u64]) -> bool
-    ensures { λ r. ⌜ r ≡ wordsFit (now (m .entry)) ⌝ }
+// Each entry is below this limit.
+pub fn all_below(m: &[u64], limit: u64) -> bool
+    ensures { λ r. ⌜ r ≡ allBelow (length (now (m .entry))) (below limit (now (m .entry))) ⌝ }
 {
     let mut i: usize = 0;
     while i < m.len() {
-        if 0o77777777777777777777 < m[i] {
+        if limit <= m[i] {
             return false;
         }
         i = i + 1;
@@ -92,14 +94,21 @@ pub fn words_fit(m: &[u64]) -> bool
     true
 }
 
-// Number 1: central memory has 1 to 131,072 words.
-pub fn length_fits(length: usize) -> bool
-    ensures { λ r. ⌜ r ≡ lengthFits length ⌝ }
+// Each word of memory has 60 bits.
+pub fn words_fit(m: &[u64]) -> bool
+    ensures { λ r. ⌜ r ≡ wordsFit (now (m .entry)) ⌝ }
 {
-    if length == 0 {
+    all_below(m, 0o100000000000000000000)
+}
+
+// Number 1: central memory has 1 to 131,072 words.
+pub fn length_fits(words: usize) -> bool
+    ensures { λ r. ⌜ r ≡ lengthFits words ⌝ }
+{
+    if words == 0 {
         return false;
     }
-    length <= 131072
+    words <= 131072
 }
 
 // Numbers 1, 3 and 5 on a lent memory and record, lowest first.

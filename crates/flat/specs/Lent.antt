@@ -6,7 +6,7 @@ use Prim.Native.Nat.{ℕ, _+_, _*_}
 use lib.Dec.{leb, eqb}
 use lib.ListN.{length, getD, replicate}
 use Rattle.channel.specs.declared.record.Channel.{Channel}
-use Rattle.exchange.specs.Indexed.{all}
+use Rattle.exchange.specs.Indexed.{allBelow}
 use Rattle.exchange.specs.declared.record.Central.{Central}
 use Rattle.machine_record.specs.Record.{idle}
 use Rattle.machine_record.specs.declared.record.MachineRecord.{MachineRecord}
@@ -20,7 +20,7 @@ abbrev pub flagsFitInMachine : List ℕ → ℕ → Bool
 flagsFitInMachine r i = flagsFit r (30 + 4 * i)
 
 unfoldable pub allFlagsFit : List ℕ → Bool
-allFlagsFit r = all 12 (flagsFitInMachine r)
+allFlagsFit r = allBelow 12 (flagsFitInMachine r)
 
 -- P has more than 18 bits
 unfoldable pub refusedCentral : Central

@@ -6,7 +6,7 @@ use Prim.Native.Nat.{ℕ, _^_, _<_}
 use lib.Dec.{ltb}
 use lib.ListN.{getD, length}
 use Rattle.channel.specs.Laws.Width.{Fits}
-use Rattle.exchange.specs.Laws.Verdicts.{HostAccepted, PackageAccepted}
+use Rattle.exchange.specs.Accepted.{HostAccepted, PackageAccepted}
 use Rattle.machine.specs.declared.effect.Effect.{Effect}
 use Rattle.machine.specs.declared.effect.Effect.the-variants.{Advance, Store, ReadCentral, WriteCentral, SetChannel, Exchange, Wait, Stop}
 use Rattle.machine.specs.Numbers.{stopListed, centralOf}

@@ -7,7 +7,7 @@ use lib.Dec.{ltb}
 use lib.ListN.{getD}
 use Rattle.channel.specs.Codes.{disconnected}
 use Rattle.channel.specs.declared.record.Channel.{Channel}
-use Rattle.exchange.specs.Indexed.{all}
+use Rattle.exchange.specs.Indexed.{allBelow}
 use Rattle.exchange.specs.Record.{recordFits}
 use Rattle.machine.specs.Numbers.{stopListed}
 use Rattle.machine.specs.declared.numbers.Processor.{Processor}
@@ -31,17 +31,17 @@ abbrev pub processorFitsAt : List Processor → ℕ → Bool
 processorFitsAt l n = processorFits (processorAt l n)
 
 unfoldable pub processorsFit : List Processor → Bool
-processorsFit l = all 10 (processorFitsAt l)
+processorsFit l = allBelow 10 (processorFitsAt l)
 
 -- "Channels 00 to 13 have: active, full, a function mark, a 12-bit word."
 abbrev pub channelFitsAt : List Channel → ℕ → Bool
 channelFitsAt l i = ltb (channelAt l i .word) (2 ^ 12)
 
 unfoldable pub channelsFit : List Channel → Bool
-channelsFit l = all 12 (channelFitsAt l)
+channelsFit l = allBelow 12 (channelFitsAt l)
 
 -- 5 "record value over its width, a stop not listed for that processor, stray EM bit, nonzero B0, or RA + FL past the memory": none of
--- these, with a central memory of this length. "clock + 1 modulo 4096"
+-- these, with a central memory of so many words. "clock + 1 modulo 4096"
 unfoldable pub machineFits : ℕ → MachineRecord → Bool
-machineFits length r =
-    recordFits length (r .central) && ltb (r .clock) (2 ^ 12) && channelsFit (r .channels) && processorsFit (r .processors)
+machineFits words r =
+    recordFits words (r .central) && ltb (r .clock) (2 ^ 12) && channelsFit (r .channels) && processorsFit (r .processors)

@@ -7,7 +7,7 @@ use lib.ListN.{length, getD}
 use Rattle.outcome.specs.declared.refusal.Refusal.the-variants as Refusal
 use Rattle.outcome.specs.declared.refusal.Verdict.{Verdict}
 use Rattle.outcome.specs.declared.refusal.Verdict.the-variants as Call
-use Rattle.exchange.specs.Indexed.{all}
+use Rattle.exchange.specs.Indexed.{allBelow}
 use Rattle.exchange.specs.Record.{lengthFits, wordsFit}
 use Rattle.single.specs.Order.{orElse}
 use Rattle.machine_record.specs.declared.record.MachineRecord.{MachineRecord}
@@ -26,7 +26,7 @@ abbrev pub shortWordFits : List ℕ → ℕ → Bool
 shortWordFits m i = ltb (getD m i 0) (2 ^ 12)
 
 unfoldable pub shortWordsFit : List ℕ → Bool
-shortWordsFit m = all (length m) (shortWordFits m)
+shortWordsFit m = allBelow (length m) (shortWordFits m)
 
 -- "Lowest number first": "1 central length; 2 peripheral length, or a turn of a processor that isn't there; 3 central word over 60 bits;
 -- 4 peripheral word over 4,095; 5". `there`: the processor whose turn is asked for is there.

@@ -59,11 +59,11 @@ fn channels_fit(channels: [Channel; 12]) -> bool
     true
 }
 
-// Number 5 does not refuse the record, with a central memory of this length.
-fn machine_fits(r: MachineRecord, length: u64) -> bool
-    ensures { λ b. ⌜ b ≡ machineFits length r ⌝ }
+// Number 5 does not refuse the record, with a central memory of so many words.
+fn machine_fits(r: MachineRecord, words: u64) -> bool
+    ensures { λ b. ⌜ b ≡ machineFits words r ⌝ }
 {
-    if !record_fits(r.central, length) {
+    if !record_fits(r.central, words) {
         return false;
     }
     if 4095 < r.clock {
@@ -78,16 +78,16 @@ fn machine_fits(r: MachineRecord, length: u64) -> bool
 }
 
 // 4,096 words for each of 1 to 10 processors.
-fn peripheral_length_fits(length: usize) -> bool
-    ensures { λ r. ⌜ r ≡ peripheralLengthFits length ⌝ }
+fn peripheral_length_fits(words: usize) -> bool
+    ensures { λ r. ⌜ r ≡ peripheralLengthFits words ⌝ }
 {
-    if length < 4096 {
+    if words < 4096 {
         return false;
     }
-    if 40960 < length {
+    if 40960 < words {
         return false;
     }
-    length % 4096 == 0
+    words % 4096 == 0
 }
 
 // Each word of peripheral memory has 12 bits.

@@ -14,10 +14,10 @@ use Rattle.shift.specs.Floating.{magnitude, coefficientOf, exponentFrom, expone
 use Rattle.instruction.specs.Instruction.{constantAt, decoded, isLong, isLeftOut, isFit, parcelsOf}
 use Rattle.instruction.specs.Effects.{branchOf, effectOf}
 use Rattle.central.specs.State.{State, state}
-use Rattle.central.specs.Address.{placeOf}
+use Rattle.central.specs.Address.{bounds, placeOf}
 use Rattle.central.specs.Apply.{returnJumped, applied}
 use Rattle.central.specs.Turn.{ranAt, turned, turnEnd, parcelsRun, wordRun, turnOf}
-use Rattle.central.specs.Laws.Place.{bounds, place-back}
+use Rattle.central.specs.Laws.Place.{place-back}
 use Rattle.central.specs.declared.address.Bounds.{Bounds}
 use Rattle.machine.specs.Numbers.{processorOf, advanced}
 use Rattle.machine.specs.Machine.{Machine, machine}
@@ -52,8 +52,8 @@ pub record Marked : Type 0 where
       → Peripheral.turnOf h n
       ≡ machine (set (h .peripheral) d 0o7776) (h .central) (h .registers)
       (advanced (h .numbers) n (onward (processorOf (h .numbers) n .p) 1) 0o777776)
-  -- 010 to K = 2 at P = 0 writes 04000000010000000000, P is 3: the word 01000000020000000000 in a field of 10 words, whatever the
-  -- registers, the other words, RA and EM
+  -- 010 to K = 2 at P = 0 writes 04000000010000000000, P is 3: the word 01000000020000000000 in a field with FL = 10 (octal),
+  -- whatever the registers, the other words, RA and EM
   return-jump : (r : List ℕ) (f : List ℕ) (ra em : ℕ)
       → turnOf (bounds ra 0o10 em) 0 (state r (0o01000000020000000000 ∷ f))
       ≡ turned (state r (set (0o01000000020000000000 ∷ f) 2 0o04000000010000000000)) (turnEnd 3 0)

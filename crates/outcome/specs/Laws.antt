@@ -1,15 +1,22 @@
--- No two refusals have one number, nor do two stops of one processor. Assumes nothing.
+-- No two refusals have one number, nor do two stops of one processor; a verdict by its cases. Assumes nothing.
 use mathlib.Core.List.{List, [], _∷_}
 use mathlib.Core.Path.{_≡_, refl, sym, ap, _∙_}
 use Prim.Native.Nat.{ℕ, _-_}
 use lib.ListN.{getD}
 use Rattle.outcome.specs.declared.refusal.Refusal.{Refusal}
 use Rattle.outcome.specs.declared.refusal.Refusal.the-variants as Refused
+use Rattle.outcome.specs.declared.refusal.Verdict.{Verdict}
+use Rattle.outcome.specs.declared.refusal.Verdict.the-variants as Call
 use Rattle.outcome.specs.declared.stop.CentralStop.{CentralStop}
 use Rattle.outcome.specs.declared.stop.CentralStop.the-variants as Central
 use Rattle.outcome.specs.declared.stop.PeripheralStop.{PeripheralStop}
 use Rattle.outcome.specs.declared.stop.PeripheralStop.the-variants as Peripheral
 use Rattle.outcome.specs.Numbers.{refusalNumber, centralStopNumber, peripheralStopNumber}
+
+-- what holds of an accepted call and of each refusal holds of every verdict
+pub either : (P : Verdict → Type 0) (v : Verdict) → (v ≡ Call.Accepted → P Call.Accepted) → ((r : Refusal) → P (Call.Refused r)) → P v
+either P Call.Accepted done refused = done refl
+either P (Call.Refused r) done refused = refused r
 
 -- a number from which the case can be had again is the number of no other case
 distinct : {A : Type 0} (number : A → ℕ) (case : ℕ → A) → ((a : A) → case (number a) ≡ a) → (a b : A) → number a ≡ number b → a ≡ b

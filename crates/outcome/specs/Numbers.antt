@@ -16,9 +16,9 @@ refusalNumber Refused.PeripheralLength = 2
 -- 3 central word over 60 bits; 4 peripheral word over 4,095
 refusalNumber Refused.CentralWord = 3
 refusalNumber Refused.PeripheralWord = 4
--- 5 record value over its width, a stop not listed, stray EM bit, nonzero B0, RA + FL past the memory
+-- 5 record value over its width, a stop not listed for that processor, stray EM bit, nonzero B0, or RA + FL past the memory (where lent)
 refusalNumber Refused.RecordValue = 5
--- 6 no job, over 16 jobs, over 256 stints, or lists of unequal length
+-- 6 no job, over 16 jobs, over 256 stints, or lists of unequal length; for hosts in C and Rust also a result slice that is too short
 refusalNumber Refused.ListLength = 6
 -- 7 stint of no listed job
 refusalNumber Refused.UnlistedJob = 7

@@ -4,7 +4,7 @@ use mathlib.Core.List.{List}
 use Prim.Native.Nat.{ℕ, zero, suc, _+_, _*_, _%_}
 use lib.Dec.{eqb}
 use lib.ListN.{set}
-use Rattle.exchange.specs.Indexed.{all}
+use Rattle.exchange.specs.Indexed.{allBelow}
 use Rattle.exchange.specs.Memory.{part, splice}
 use Rattle.single.specs.Host as Host
 use Rattle.machine.specs.Numbers.{processorOf, centralOf, centralStop, clockOf}
@@ -55,7 +55,7 @@ isStopped s n = not (eqb (processorOf s n .stop) 0)
 
 -- the central processor and each of the k peripheral ones
 unfoldable pub allStopped : ℕ → List ℕ → Bool
-allStopped k s = not (eqb (centralStop s) 0) && all k (isStopped s)
+allStopped k s = not (eqb (centralStop s) 0) && allBelow k (isStopped s)
 
 -- the machine after several rounds, and how many were made
 pub record Run : Type 0 where

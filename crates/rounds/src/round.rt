@@ -2,7 +2,7 @@
 ghost use mathlib.Core.Path.{_≡_};
 ghost use Prim.Native.Nat.{_*_, _^_, _<_, _≤_};
 ghost use lib.ListN.{length};
-ghost use Rattle.exchange.specs.Laws.Verdicts.{HostAccepted};
+ghost use Rattle.exchange.specs.Accepted.{HostAccepted};
 ghost use Rattle.machine.specs.Numbers.{centralOf, clockOf};
 ghost use Rattle.machine.specs.Machine.{machine, centralSide};
 ghost use Rattle.machine.specs.Widths.{Kept};

@@ -1,4 +1,6 @@
--- Demand 3, in the order of document 01, "Words of demand 3". Laws.Isolation proves it. Assumes nothing.
+-- Demand 3, in the order of document 01, "Words of demand 3". Laws.Isolation proves it. Five quotes are the words of demand 3
+-- itself, as the product states it, and not document 01's: at `StopsInLastOnly`, the first at `Alike`, at `EndsAlike`, the first at
+-- `Isolation`, and at `RestKept`. Assumes nothing.
 use mathlib.Core.Bool.{cond}
 use mathlib.Core.List.{List, [], _∷_}
 use mathlib.Core.Logic.{_⊎_}
@@ -46,17 +48,17 @@ ofJob i [] xs = []
 ofJob i (j ∷ js) [] = []
 ofJob i (j ∷ js) (x ∷ xs) = cond (eqb j i) (x ∷ ofJob i js xs) (ofJob i js xs)
 
-unfoldable pub sum : List ℕ → ℕ
-sum [] = 0
-sum (x ∷ xs) = x + sum xs
+unfoldable pub total : List ℕ → ℕ
+total [] = 0
+total (x ∷ xs) = x + total xs
 
 -- "The turns asked of a job are the sum over its stints in the list, the turns it made the sum of the counts of turns made in them;
 -- both are 0 without a stint."
 abbrev pub turnsAsked : Schedule → ℕ → ℕ
-turnsAsked s i = sum (ofJob i (s .stintJobs) (s .stintTurns))
+turnsAsked s i = total (ofJob i (s .stintJobs) (s .stintTurns))
 
 abbrev pub turnsMade : Schedule → ℕ → ℕ
-turnsMade s i = sum (ofJob i (s .stintJobs) (scheduleEnd s .turns))
+turnsMade s i = total (ofJob i (s .stintJobs) (scheduleEnd s .turns))
 
 -- the last entry, or 0 without one
 unfoldable pub lastOf : List ℕ → ℕ

@@ -4,7 +4,7 @@ use mathlib.Core.List.{List}
 use mathlib.Core.Path.{_≡_}
 use Prim.Native.Nat.{ℕ, _<_}
 use lib.ListN.{length, getD}
-use Rattle.exchange.specs.Laws.Verdicts.{HostAccepted, PackageAccepted}
+use Rattle.exchange.specs.Accepted.{HostAccepted, PackageAccepted}
 use Rattle.exchange.specs.declared.record.Central.{Central}
 use Rattle.schedule.specs.Refusals.{packageMeetsField, packagesMeet, fieldsMeet}
 

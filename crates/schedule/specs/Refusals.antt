@@ -1,64 +1,54 @@
 -- Which schedules are refused, by document 01, "Who can be turned down": "Lowest number first, over all jobs before the next number". Assumes nothing.
 use mathlib.Core.Bool.{Bool, not, _&&_, _||_, cond}
 use mathlib.Core.List.{List}
-use Prim.Native.Nat.{ℕ, _+_}
-use lib.Dec.{ltb, leb, eqb}
+use Prim.Native.Nat.{ℕ}
+use lib.Dec.{leb, eqb}
 use lib.ListN.{length, getD}
 use Rattle.outcome.specs.declared.refusal.Refusal.the-variants as Refusal
 use Rattle.outcome.specs.declared.refusal.Verdict.the-variants as Call
 use Rattle.outcome.specs.declared.refusal.Verdict.{Verdict}
-use Rattle.exchange.specs.Indexed.{all}
-use Rattle.exchange.specs.Jump.{recordAt}
-use Rattle.exchange.specs.Memory.{part}
-use Rattle.exchange.specs.Package.{hasStray}
-use Rattle.exchange.specs.Record.{hostVerdict}
+use Rattle.exchange.specs.Indexed.{allBelow}
+use Rattle.exchange.specs.Jump.{recordAt, packageInside, packageClean, fieldInside}
+use Rattle.exchange.specs.Record.{below, hostVerdict}
 use Rattle.single.specs.Order.{orElse}
 use Rattle.single.specs.Overlap.{sharesWord}
+use Rattle.single.specs.Program.{mostTurns}
 use Rattle.schedule.specs.Schedule.{Schedule}
 
--- 6 "no job, over 16 jobs, over 256 stints, or lists of unequal length": none of these
 abbrev pub mostJobs : ℕ
 mostJobs = 16
 
 abbrev pub mostStints : ℕ
 mostStints = 256
 
+-- 6 "no job, over 16 jobs, over 256 stints, or lists of unequal length": none of these
 unfoldable pub listsFit : List ℕ → List ℕ → List ℕ → Bool
-listsFit jobs js ts =
-    leb 1 (length jobs) && leb (length jobs) mostJobs && leb (length js) mostStints && eqb (length js) (length ts)
+listsFit jobs stintJobs stintTurns =
+    leb 1 (length jobs)
+    && leb (length jobs) mostJobs
+    && leb (length stintJobs) mostStints
+    && eqb (length stintJobs) (length stintTurns)
 
 -- 7 "stint of no listed job"; "jobs and stints are numbered from 0"
 unfoldable pub jobsListed : List ℕ → List ℕ → Bool
-jobsListed jobs js = all (length js) (λ i. ltb (getD js i 0) (length jobs))
+jobsListed jobs stintJobs = allBelow (length stintJobs) (below (length jobs) stintJobs)
 
 -- 8 "a stint over 65,535 turns"
 unfoldable pub turnsFit : List ℕ → Bool
-turnsFit ts = all (length ts) (λ i. leb (getD ts i 0) 65535)
+turnsFit stintTurns = allBelow (length stintTurns) (λ i. leb (getD stintTurns i 0) mostTurns)
 
 -- 6 to 8: the schedule writer's
 unfoldable pub listsVerdict : List ℕ → List ℕ → List ℕ → Verdict
-listsVerdict jobs js ts =
-    cond (listsFit jobs js ts)
-    (cond (jobsListed jobs js)
-    (cond (turnsFit ts) Call.Accepted (Call.Refused Refusal.TooManyTurns))
+listsVerdict jobs stintJobs stintTurns =
+    cond (listsFit jobs stintJobs stintTurns)
+    (cond (jobsListed jobs stintJobs)
+    (cond (turnsFit stintTurns) Call.Accepted (Call.Refused Refusal.TooManyTurns))
     (Call.Refused Refusal.UnlistedJob))
     (Call.Refused Refusal.ListLength)
 
 -- a test of every job's package address
 abbrev pub everyJob : List ℕ → (ℕ → Bool) → Bool
-everyJob jobs test = all (length jobs) (λ i. test (getD jobs i 0))
-
--- 9 "package past the end"
-unfoldable pub packageInside : List ℕ → ℕ → Bool
-packageInside m at = leb (at + 16) (length m)
-
--- 10 "stray bits"
-unfoldable pub packageClean : List ℕ → ℕ → Bool
-packageClean m at = not (hasStray (part m at 16))
-
--- 11 "RA + FL past the end"
-unfoldable pub fieldInside : List ℕ → ℕ → Bool
-fieldInside m at = leb (recordAt m at .ra + recordAt m at .fl) (length m)
+everyJob jobs test = allBelow (length jobs) (λ i. test (getD jobs i 0))
 
 -- the package at a against the field of the package at b
 abbrev pub packageMeetsField : List ℕ → ℕ → ℕ → Bool
@@ -79,7 +69,7 @@ jobsApart m jobs i j =
     && (eqb i j || (not (packagesMeet (getD jobs i 0) (getD jobs j 0)) && not (fieldsMeet m (getD jobs i 0) (getD jobs j 0))))
 
 unfoldable pub allApart : List ℕ → List ℕ → Bool
-allApart m jobs = all (length jobs) (λ i. all (length jobs) (jobsApart m jobs i))
+allApart m jobs = allBelow (length jobs) (λ i. allBelow (length jobs) (jobsApart m jobs i))
 
 -- 9 to 12: the package owners'
 unfoldable pub ownersVerdict : List ℕ → List ℕ → Verdict

@@ -4,7 +4,8 @@ use mathlib.Core.List.{List}
 use mathlib.Core.Path.{_≡_}
 use Prim.Native.Nat.{ℕ, _≤_}
 use lib.ListN.{length}
-use Rattle.schedule.specs.Refusals.{everyJob, packageInside, fieldInside}
+use Rattle.exchange.specs.Jump.{packageInside, fieldInside}
+use Rattle.schedule.specs.Refusals.{everyJob}
 
 -- numbers 9 and 11 refuse no job of a memory that is not too long for number 1
 pub record Inside (m jobs : List ℕ) : Type 0 where

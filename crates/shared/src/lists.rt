@@ -1,4 +1,5 @@
 // The tests of a schedule's lists: numbers 6, 7 and 8. Of each stint js has the job and ts the turns.
+use exchange::record::all_below;
 use outcome::refusal::Refusal;
 use outcome::refusal::Verdict;
 ghost use mathlib.Core.Path.{_≡_};
@@ -24,29 +25,14 @@ fn lists_fit(jobs: &[u64], js: &[u64], ts: &[u64]) -> bool
 fn jobs_listed(jobs: &[u64], js: &[u64]) -> bool
     ensures { λ r. ⌜ r ≡ jobsListed (now (jobs .entry)) (now (js .entry)) ⌝ }
 {
-    let count = jobs.len() as u64;
-    let mut i: usize = 0;
-    while i < js.len() {
-        if count <= js[i] {
-            return false;
-        }
-        i = i + 1;
-    }
-    true
+    all_below(js, jobs.len() as u64)
 }
 
 // No stint is of more than 65,535 turns.
 fn turns_fit(ts: &[u64]) -> bool
     ensures { λ r. ⌜ r ≡ turnsFit (now (ts .entry)) ⌝ }
 {
-    let mut i: usize = 0;
-    while i < ts.len() {
-        if 65535 < ts[i] {
-            return false;
-        }
-        i = i + 1;
-    }
-    true
+    all_below(ts, 65536)
 }
 
 // Numbers 6, 7 and 8, lowest first.

@@ -1,4 +1,5 @@
 // The tests of the jobs' packages: numbers 9 to 12, each over all jobs before the next. A job is the address of its package.
+use exchange::jump::field_inside;
 use exchange::jump::package_is_inside;
 use exchange::package::has_stray;
 use exchange::package::load;
@@ -9,18 +10,19 @@ ghost use mathlib.Core.Bool.{true};
 ghost use mathlib.Core.Path.{_≡_};
 ghost use Prim.Native.Nat.{_+_, _≤_, _<_};
 ghost use lib.ListN.{length};
-ghost use Rattle.exchange.specs.Indexed.{all};
-ghost use Rattle.schedule.specs.Refusals.{everyJob, packageInside, packageClean, fieldInside, jobsApart, allApart, ownersVerdict};
+ghost use Rattle.exchange.specs.Indexed.{allBelow};
+ghost use Rattle.exchange.specs.Jump.{packageInside, packageClean, fieldInside};
+ghost use Rattle.schedule.specs.Refusals.{everyJob, jobsApart, allApart, ownersVerdict};
 ghost use Rattle.shared.specs.Owners.{Inside};
 
 // Number 9 refuses no job. An address is any number, and nothing is read at it before this test.
 fn packages_inside(m: &[u64], jobs: &[u64]) -> bool
     ensures { λ r. ⌜ r ≡ everyJob (now (jobs .entry)) (packageInside (now (m .entry))) ⌝ }
 {
-    let length = m.len() as u64;
+    let words = m.len() as u64;
     let mut i: usize = 0;
     while i < jobs.len() {
-        if !package_is_inside(length, jobs[i]) {
+        if !package_is_inside(words, jobs[i]) {
             return false;
         }
         i = i + 1;
@@ -41,15 +43,6 @@ fn packages_clean(m: &[u64], jobs: &[u64]) -> bool
         i = i + 1;
     }
     true
-}
-
-// Number 11 does not refuse the package at this address.
-fn field_inside(m: &[u64], at: usize) -> bool
-    requires { ⌜ at + 16 ≤ length (now m) ⌝ }
-    ensures { λ r. ⌜ r ≡ fieldInside (now (m .entry)) at ⌝ }
-{
-    let c = load(m, at);
-    c.ra + c.fl <= m.len() as u64
 }
 
 // Number 11 refuses no job.
@@ -94,7 +87,7 @@ fn jobs_apart(m: &[u64], jobs: &[u64], i: usize, j: usize) -> bool
 fn apart_from_all(m: &[u64], jobs: &[u64], i: usize) -> bool
     requires { ⌜ Inside (now m) (now jobs) ⌝ }
     requires { ⌜ i < length (now jobs) ⌝ }
-    ensures { λ r. ⌜ r ≡ all (length (now (jobs .entry))) (jobsApart (now (m .entry)) (now (jobs .entry)) i) ⌝ }
+    ensures { λ r. ⌜ r ≡ allBelow (length (now (jobs .entry))) (jobsApart (now (m .entry)) (now (jobs .entry)) i) ⌝ }
 {
     let mut j: usize = 0;
     while j < jobs.len() {

@@ -6,6 +6,7 @@ use exchange::record::host_verdict;
 use outcome::refusal::Verdict;
 ghost use mathlib.Core.Path.{_≡_};
 ghost use Rattle.schedule.specs.Refusals.{scheduleVerdict};
+ghost use Rattle.shared.specs.Answer.{scheduleOf};
 
 // Memory and record, the jobs' package addresses, and the job and the turns of each stint: lowest number first.
 pub(crate) fn schedule_verdict(
@@ -15,13 +16,7 @@ pub(crate) fn schedule_verdict(
     js: &[u64],
     ts: &[u64],
 ) -> Verdict
-    ensures { λ r. ⌜ r ≡ scheduleVerdict (record {
-      memory = now (m .entry);
-      central = c;
-      jobs = now (jobs .entry);
-      stintJobs = now (js .entry);
-      stintTurns = now (ts .entry);
-    }) ⌝ }
+    ensures { λ r. ⌜ r ≡ scheduleVerdict (scheduleOf (now (m .entry)) c (now (jobs .entry)) (now (js .entry)) (now (ts .entry))) ⌝ }
 {
     match host_verdict(m, c) {
         Verdict::Accepted => match lists_verdict(jobs, js, ts) {

@@ -31,7 +31,7 @@ after m c o =
 abbrev pub turnsOn : ℕ → Central → List ℕ → Run
 turnsOn n c f = turnsOf n (boundsOf c) (c .p) (state (c .registers) f)
 
--- the field is the words from RA up to, but without, RA + FL
+-- "A stint is handed its field alone, to read and to write." The field is "the words from RA up to, but without, RA + FL"
 abbrev pub fieldRun : List ℕ → Central → ℕ → Run
 fieldRun m c n = turnsOn n c (part m (c .ra) (c .fl))
 

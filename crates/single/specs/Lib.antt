@@ -1,5 +1,5 @@
 -- The definitions that the contracts of `single` cite. A reader has to believe these; `Laws` is proved from them.
--- "lowest number first"
+-- "Lowest number first"
 pub mod Order
 -- turns on a field, and stints
 pub mod Field

@@ -19,10 +19,14 @@ unfoldable pub overlapVerdict : List ℕ → ℕ → Verdict
 overlapVerdict m at =
     cond (sharesWord at 16 (recordAt m at .ra) (recordAt m at .fl)) (Call.Refused Refusal.SharedWord) Call.Accepted
 
--- "8 a stint over 65,535 turns", then 9, 10, 11, then 12
+-- 8 "a stint over 65,535 turns"
+abbrev pub mostTurns : ℕ
+mostTurns = 65535
+
+-- 8, then 9, 10, 11, then 12
 unfoldable pub ownerVerdict : List ℕ → ℕ → ℕ → Verdict
 ownerVerdict m at n =
-    cond (ltb 65535 n) (Call.Refused Refusal.TooManyTurns) (orElse (packageVerdict m at) (overlapVerdict m at))
+    cond (ltb mostTurns n) (Call.Refused Refusal.TooManyTurns) (orElse (packageVerdict m at) (overlapVerdict m at))
 
 -- 1, 3, 5, then 8 to 12
 unfoldable pub runVerdict : List ℕ → Central → ℕ → ℕ → Verdict

@@ -4,7 +4,7 @@ use mathlib.Core.List.{List}
 use mathlib.Core.Path.{_≡_}
 use Prim.Native.Nat.{ℕ}
 use Rattle.exchange.specs.Jump.{recordAt, exchanged}
-use Rattle.exchange.specs.Laws.Verdicts.{HostAccepted, PackageAccepted}
+use Rattle.exchange.specs.Accepted.{HostAccepted, PackageAccepted}
 use Rattle.exchange.specs.declared.record.Central.{Central}
 use Rattle.single.specs.Overlap.{sharesWord}
 use Rattle.single.specs.Field.{RanMemory, ranOn}

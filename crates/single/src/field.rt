@@ -1,6 +1,6 @@
 // Turns of a central record on its field, the one part of memory that they are lent.
 ghost use mathlib.Core.Path.{_≡_};
-ghost use Rattle.exchange.specs.Laws.Verdicts.{HostAccepted};
+ghost use Rattle.exchange.specs.Accepted.{HostAccepted};
 ghost use Rattle.single.specs.Field.{ranOn, ranTo};
 use central::address::Bounds;
 use central::turn::turns;

@@ -1,6 +1,6 @@
 // The calls on the central record itself: one turn, one exchange jump.
 ghost use mathlib.Core.Path.{_≡_};
-ghost use Rattle.exchange.specs.Laws.Verdicts.{HostAccepted};
+ghost use Rattle.exchange.specs.Accepted.{HostAccepted};
 ghost use Rattle.single.specs.Host.{machine, turnedOnce, exchangeVerdict, answerTo, turnAnswer, exchangeAnswer};
 use super::field::run;
 use exchange::jump::exchange_jump;

@@ -2,7 +2,7 @@
 ghost use mathlib.Core.Path.{_≡_};
 ghost use Prim.Native.Nat.{_+_, _≤_};
 ghost use lib.ListN.{length};
-ghost use Rattle.exchange.specs.Laws.Verdicts.{PackageAccepted};
+ghost use Rattle.exchange.specs.Accepted.{PackageAccepted};
 ghost use Rattle.single.specs.Overlap.{sharesWord};
 ghost use Rattle.single.specs.Program.{overlapVerdict, ownerVerdict, runVerdict, runTo, runAnswer};
 use super::stint::stint;

@@ -22,7 +22,8 @@ isOutOfRange x = topIs x 0o3777 0o4000
 abbrev pub isIndefinite : ℕ → Bool
 isIndefinite x = topIs x 0o1777 0o6000
 
--- 03, i = 0 to 7: "zero (either zero), not zero, plus, minus, in range, out of range, definite, indefinite"
+-- 03, i = 0 to 7: "Xj zero (either zero), not zero, plus, minus, in range, out of range (top 12 bits 3777 or 4000), definite,
+-- indefinite (1777 or 6000)"
 abbrev pub wordConditions : ℕ → List Bool
 wordConditions x =
     isZero x
@@ -38,11 +39,11 @@ wordConditions x =
 unfoldable pub wordCondition : ℕ → ℕ → Bool
 wordCondition i x = getD (wordConditions x) i false
 
--- "a set sign is less than a clear one, equal signs go by pattern"
+-- "for 06, 07 a set sign is less than a clear one, equal signs go by pattern"
 unfoldable pub isLess : ℕ → ℕ → Bool
 isLess a b = cond (negative 18 a) (cond (negative 18 b) (ltb a b) true) (cond (negative 18 b) false (ltb a b))
 
--- 04 equal, 05 not equal, 06 not less, 07 less
+-- 04 equal, 05 not equal, 06 not less, 07 less; "04, 05 as bit patterns"
 abbrev pub comparisons : ℕ → ℕ → List Bool
 comparisons bi bj = eqb bi bj ∷ not (eqb bi bj) ∷ not (isLess bi bj) ∷ isLess bi bj ∷ []
 

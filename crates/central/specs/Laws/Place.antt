@@ -12,15 +12,11 @@ use Rattle.instruction.specs.declared.effect.Effect.{Effect}
 use Rattle.instruction.specs.declared.effect.Effect.the-variants.{Pass, Stop, Jump, ReturnJump, SetA, SetB, SetX, SetXB}
 use Rattle.central.specs.declared.apply.Step.the-variants as Then
 use Rattle.central.specs.State.{State, state}
-use Rattle.central.specs.Address.{placeOf}
+use Rattle.central.specs.Address.{bounds, placeOf}
 use Rattle.central.specs.Apply.{After, referred, aSet, storedAt, returnJumped, applied}
 use Rattle.central.specs.Turn.{ranAt, stepOf, Turn, turned, turnEnd, goOn, parcelsRun, fetched, turnOf, afterTurn, turnsOf}
-use Rattle.central.specs.declared.address.Bounds.{Bounds}
 use Rattle.central.specs.declared.address.Place.the-variants.{Inside, Outside}
 use Rattle.central.specs.declared.apply.Step.{Step}
-
-abbrev pub bounds : ℕ → ℕ → ℕ → Bounds
-bounds ra fl em = record { ra = ra; fl = fl; em = em }
 
 -- where the word at RA + n stands in the field
 pub place-back : (ra n : ℕ) → ra + n - ra ≡ n

@@ -13,19 +13,20 @@ use Rattle.outcome.specs.declared.refusal.Verdict.{Verdict}
 use Rattle.outcome.specs.declared.refusal.Verdict.the-variants as Call
 use Rattle.word.specs.Laws.Choice.{of-cond}
 use Rattle.word.specs.Laws.Tests.{both}
-use Rattle.exchange.specs.Indexed.{all}
+use Rattle.exchange.specs.Indexed.{allBelow}
 use Rattle.exchange.specs.Record.{emFits, registersFit, recordFits, hostVerdict}
 use Rattle.exchange.specs.Laws.Record.{of-word-width}
 use Rattle.exchange.specs.Laws.Verdicts.{of-host-accepted}
 use Rattle.single.specs.Order.{orElse}
-use Rattle.schedule.specs.Refusals.{listsFit, jobsListed, turnsFit, listsVerdict, everyJob, packageInside, packageClean, fieldInside, allApart, ownersVerdict, scheduleVerdict}
+use Rattle.exchange.specs.Jump.{packageInside, packageClean, fieldInside}
+use Rattle.schedule.specs.Refusals.{listsFit, jobsListed, turnsFit, listsVerdict, everyJob, allApart, ownersVerdict, scheduleVerdict}
 use Rattle.reading.specs.Reading.{Request, Part, readable, readingOf}
 use Rattle.reading.specs.Laws.Memory.{InputMemory, input-memory}
 use Rattle.console.specs.Console.{zeroRecord, scheduleIn}
 
 -- the record that the console lends fits a memory of any length
 zero-fits : (n : ℕ) → recordFits n zeroRecord ≡ true
-unfolding recordFits emFits registersFit all
+unfolding recordFits emFits registersFit allBelow
 zero-fits n = rw (le-leb 0 n (omega arith))
 
 -- and a memory that an input can ask for is accepted with it

@@ -7,7 +7,7 @@ use Rattle.octal.specs.Laws.Again.{read-text}
 use Rattle.octal.specs.Laws.Write.{length-digits}
 use Rattle.octal.specs.Write.{digits}
 use Rattle.exchange.specs.Laws.Record.{word-width}
-use Rattle.exchange.specs.Laws.Verdicts.{HostAccepted}
+use Rattle.exchange.specs.Accepted.{HostAccepted}
 use Rattle.schedule.specs.Isolation.{Accepted}
 use Rattle.schedule.specs.Laws.Projection.{stints-keep}
 use Rattle.schedule.specs.Laws.Refusals.{accepted-lists, accepted-ready}

@@ -5,7 +5,7 @@ use mathlib.Core.Path.{_≡_, refl}
 use Prim.Native.Nat.{ℕ}
 use lib.ListN.{replicate}
 use Rattle.exchange.specs.declared.record.Central.{Central}
-use Rattle.exchange.specs.Indexed.{all, tabulate}
+use Rattle.exchange.specs.Indexed.{allBelow, tabulate}
 use Rattle.exchange.specs.Record.{emFits}
 use Rattle.exchange.specs.Package.{packageWord, coded, registerIn, decoded, hasStray}
 
@@ -32,5 +32,5 @@ pub record Example : Type 0 where
   pub no-stray : hasStray packageBefore ≡ false
 
 pub example : Example
-unfolding tabulate all emFits packageWord coded registerIn decoded hasStray
+unfolding tabulate allBelow emFits packageWord coded registerIn decoded hasStray
 example = record { loaded = refl; stored = refl; loaded-again = refl; no-stray = refl }

@@ -10,52 +10,52 @@ use lib.ListN.{length, getD, set, take, length-append, List·getD-append}
 use lib.Seq.{take-suc-set, take-all, getD-at}
 use Rattle.word.specs.Laws.Choice.{le-or-lt}
 use Rattle.word.specs.Laws.Tests.{both}
-use Rattle.exchange.specs.Indexed.{all, tabulate}
+use Rattle.exchange.specs.Indexed.{allBelow, tabulate}
 
 module _ (test : ℕ → Bool) where
-  pub all-more : (n : ℕ) → all n test ≡ true → test n ≡ true → all (n + 1) test ≡ true
-  unfolding all
+  pub all-more : (n : ℕ) → allBelow n test ≡ true → test n ≡ true → allBelow (n + 1) test ≡ true
+  unfolding allBelow
   all-more n h e = rw (add-one, h, e)
 
-  pub all-at : (n : ℕ) → all n test ≡ true → (i : ℕ) → i < n → test i ≡ true
-  unfolding all
+  pub all-at : (n : ℕ) → allBelow n test ≡ true → (i : ℕ) → i < n → test i ≡ true
+  unfolding allBelow
   all-at zero h i l = absurd (omega arith)
   all-at (suc n) h i l =
-      let s = both (all n test) (test n) h in
+      let s = both (allBelow n test) (test n) h in
       ⊎-elim (λ g. let e : i ≡ n = omega arith in rw e (s .1)) (λ g. all-at n (s .0) i g) (le-or-lt n i)
 
-  pub all-of : (n : ℕ) → ((i : ℕ) → i < n → test i ≡ true) → all n test ≡ true
-  unfolding all
+  pub all-of : (n : ℕ) → ((i : ℕ) → i < n → test i ≡ true) → allBelow n test ≡ true
+  unfolding allBelow
   all-of zero h = refl
   all-of (suc n) h = rw (all-of n (λ i l. h i (omega arith)), h n (omega arith))
 
   -- one number of which it does not hold
-  pub all-not : (n i : ℕ) → i < n → test i ≡ false → all n test ≡ false
-  unfolding all
+  pub all-not : (n i : ℕ) → i < n → test i ≡ false → allBelow n test ≡ false
+  unfolding allBelow
   all-not zero i l e = absurd (omega arith)
   all-not (suc n) i l e =
       ⊎-elim
-      (λ g. let s : n ≡ i = omega arith in rw (s, e) (and-false (all i test)))
+      (λ g. let s : n ≡ i = omega arith in rw (s, e) (and-false (allBelow i test)))
       (λ g. rw (all-not n i g e))
       (le-or-lt n i)
 
 -- a loop that tests every number below n, and leaves at the first that fails: the first i of n have passed
 pub record Passed (test : ℕ → Bool) (n i : ℕ) : Type 0 where
   pub most : i ≤ n
-  pub passed : all i test ≡ true
+  pub passed : allBelow i test ≡ true
 
 module _ (test : ℕ → Bool) (n : ℕ) where
   pub none-yet : Passed test n 0
-  unfolding all
+  unfolding allBelow
   none-yet = record { most = omega arith; passed = refl }
 
   pub one-more : (i : ℕ) → Passed test n i → i < n → test i ≡ true → Passed test n (i + 1)
   one-more i p l e = record { most = omega arith; passed = all-more test i (p .passed) e }
 
-  pub all-passed : (i : ℕ) → Passed test n i → n ≤ i → true ≡ all n test
+  pub all-passed : (i : ℕ) → Passed test n i → n ≤ i → true ≡ allBelow n test
   all-passed i p l = let e : i ≡ n = omega arith in sym (rw e at (p .passed))
 
-  pub one-fails : (i : ℕ) → i < n → test i ≡ false → false ≡ all n test
+  pub one-fails : (i : ℕ) → i < n → test i ≡ false → false ≡ allBelow n test
   one-fails i l e = sym (all-not test n i l e)
 
 module _ (entry : ℕ → ℕ) where

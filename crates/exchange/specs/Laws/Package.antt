@@ -16,8 +16,8 @@ use Rattle.word.specs.Laws.Bits.{bits-lt}
 use Rattle.word.specs.Laws.Choice.{of-getD, le-or-lt}
 use Rattle.instruction.specs.Registers.{aOf, bOf, xOf}
 use Rattle.exchange.specs.declared.record.Central.{Central}
-use Rattle.exchange.specs.Indexed.{all, tabulate}
-use Rattle.exchange.specs.Record.{emFits, registerWidth, recordFits, running, FitsPackage}
+use Rattle.exchange.specs.Indexed.{allBelow, tabulate}
+use Rattle.exchange.specs.Record.{emFits, registerWidth, recordFits, FitsPackage}
 use Rattle.exchange.specs.Package.{controls, packageWord, coded, registerIn, controlIn, decoded, bitsInUse, wordHasNoStray, hasStray}
 use Rattle.word.specs.Laws.Tests.{both}
 use Rattle.exchange.specs.Laws.Indexed.{all-at, all-of, length-tabulate, getD-tabulate}
@@ -101,6 +101,10 @@ module _ (c : Central) (w : FitsPackage c) where
       ext-getD 0 (tabulate 24 (registerIn (coded c))) (c .registers) (t ∙ sym l)
       (λ i h. getD-tabulate (registerIn (coded c)) 24 i (omega arith) ∙ register-back i (omega arith))
 
+-- the record with the processor running
+abbrev pub running : Central → Central
+running c = record { p = c .p; ra = c .ra; fl = c .fl; em = c .em; registers = c .registers; stop = 0 }
+
 record-path : (c d : Central)
     → c .p ≡ d .p → c .ra ≡ d .ra → c .fl ≡ d .fl → c .em ≡ d .em → c .registers ≡ d .registers → running c ≡ running d
 record-path c d p ra fl em registers = λ i. record { p = p i; ra = ra i; fl = fl i; em = em i; registers = registers i; stop = 0 }
@@ -125,8 +129,8 @@ pub record NoStray (w : List ℕ) : Type 0 where
 pub no-stray : (w : List ℕ) → hasStray w ≡ false → NoStray w
 unfolding hasStray
 no-stray w h =
-    let h₂ = both (all 8 (wordHasNoStray w) && eqb (bits (getD w 0 0) 0 18) 0) (emFits (controlIn w 3)) (not-false _ h) in
-    let h₁ = both (all 8 (wordHasNoStray w)) (eqb (bits (getD w 0 0) 0 18) 0) (h₂ .0) in
+    let h₂ = both (allBelow 8 (wordHasNoStray w) && eqb (bits (getD w 0 0) 0 18) 0) (emFits (controlIn w 3)) (not-false _ h) in
+    let h₁ = both (allBelow 8 (wordHasNoStray w)) (eqb (bits (getD w 0 0) 0 18) 0) (h₂ .0) in
     record {
       word-width = λ n l. ltb-true (getD w n 0) (2 ^ bitsInUse n) (all-at (wordHasNoStray w) 8 (h₁ .0) n l);
       b0-zero = eqb-true (bits (getD w 0 0) 0 18) 0 (h₁ .1);

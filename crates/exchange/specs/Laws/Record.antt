@@ -1,19 +1,19 @@
 -- What the tests of a record and of a memory say of each value. Assumes nothing.
-use mathlib.Core.Bool.{Bool, true, _&&_}
+use mathlib.Core.Bool.{true, _&&_}
 use mathlib.Core.List.{List}
 use mathlib.Core.Logic.{⊎-elim}
 use mathlib.Core.Path.{_≡_, subst}
-use Prim.Native.Nat.{ℕ, _+_, _-_, _*_, _^_, _≤_, _<_}
+use Prim.Native.Nat.{ℕ, suc, _+_, _-_, _*_, _^_, _≤_, _<_}
 use native.Mathlib.Omega.{arith}
 use borrow.Author.Tests.{ltb-true, leb-true, eqb-true, lt-ltb, le-ltb, le-leb, eq-eqb}
-use lib.Dec.{ltb, leb, eqb, lit<}
+use lib.Dec.{ltb, leb, eqb, lit<, leb·suc-suc}
 use lib.ListN.{length, getD, List·getD-eq-default}
 use Rattle.word.specs.Bits.{bits}
 use Rattle.word.specs.Laws.Choice.{le-or-lt}
 use Rattle.instruction.specs.Registers.{aOf, bOf, xOf}
 use Rattle.exchange.specs.declared.record.Central.{Central}
-use Rattle.exchange.specs.Indexed.{all}
-use Rattle.exchange.specs.Record.{emFits, registerWidth, registerFits, registersFit, recordFits, FitsPackage, wordsFit}
+use Rattle.exchange.specs.Indexed.{allBelow}
+use Rattle.exchange.specs.Record.{emFits, registerWidth, registerFits, registersFit, recordFits, FitsPackage, below, wordsFit}
 use Rattle.word.specs.Laws.Tests.{both}
 use Rattle.exchange.specs.Laws.Indexed.{all-at, all-of}
 
@@ -93,20 +93,21 @@ of-fits n c f =
     )
     (all-of (registerFits (c .registers)) 24 (λ i l. lt-ltb (getD (c .registers) i 0) (2 ^ registerWidth i) (w .register-width i l)))
 
--- a test of every word for a bound B; then the bound holds of every word, and of 0 past the end
-abbrev pub below : ℕ → List ℕ → ℕ → Bool
-below B m i = ltb (getD m i 0) B
-
+-- where every entry is below B, so is 0 past the end
 module _ (B : ℕ) (m : List ℕ) where
-  pub all-below : 0 < B → all (length m) (below B m) ≡ true → (i : ℕ) → getD m i 0 < B
+  pub all-below : 0 < B → allBelow (length m) (below B m) ≡ true → (i : ℕ) → getD m i 0 < B
   all-below z h i =
       ⊎-elim
       (λ l. rw (List·getD-eq-default m 0 {n = i} l) z)
       (λ l. ltb-true (getD m i 0) B (all-at (below B m) (length m) h i l))
       (le-or-lt (length m) i)
 
-  pub of-all-below : ((i : ℕ) → getD m i 0 < B) → all (length m) (below B m) ≡ true
+  pub of-all-below : ((i : ℕ) → getD m i 0 < B) → allBelow (length m) (below B m) ≡ true
   of-all-below h = all-of (below B m) (length m) (λ i l. lt-ltb (getD m i 0) B (h i))
+
+-- below the next number is at most the number
+pub below-suc : (n : ℕ) (m : List ℕ) → allBelow (length m) (below (suc n) m) ≡ allBelow (length m) (λ i. leb (getD m i 0) n)
+below-suc n m = λ j. allBelow (length m) (λ i. leb·suc-suc (getD m i 0) n j)
 
 pub word-width : (m : List ℕ) → wordsFit m ≡ true → (i : ℕ) → getD m i 0 < 2 ^ 60
 unfolding wordsFit

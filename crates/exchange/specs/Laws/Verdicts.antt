@@ -2,9 +2,9 @@
 use mathlib.Core.Bool.{Bool, true, false, _&&_, cond}
 use mathlib.Core.List.{List}
 use mathlib.Core.Path.{_≡_, refl}
-use Prim.Native.Nat.{ℕ, _+_, _≤_}
+use Prim.Native.Nat.{ℕ, _+_}
 use native.Mathlib.Omega.{arith}
-use borrow.Author.Tests.{leb-true, le-leb}
+use borrow.Author.Tests.{leb-true, le-leb, not-true}
 use lib.Dec.{leb}
 use lib.ListN.{length}
 use Rattle.outcome.specs.declared.refusal.Refusal.{Refusal}
@@ -14,7 +14,8 @@ use Rattle.exchange.specs.declared.record.Central.{Central}
 use Rattle.exchange.specs.Record.{recordFits, wordsFit, hostVerdict}
 use Rattle.exchange.specs.Memory.{part}
 use Rattle.exchange.specs.Package.{hasStray}
-use Rattle.exchange.specs.Jump.{recordAt, packageVerdict}
+use Rattle.exchange.specs.Jump.{recordAt, packageInside, packageClean, fieldInside, packageVerdict}
+use Rattle.exchange.specs.Accepted.{HostAccepted, PackageAccepted}
 use Rattle.word.specs.Laws.Tests.{both}
 
 -- accepted where a test passes
@@ -26,19 +27,6 @@ by-test false v r e = let z : _≡_ {A = ℕ} 0 1 = cc in absurd (omega arith)
 pub by-fault : (t : Bool) (r : Refusal) (v : Verdict) → cond t (Call.Refused r) v ≡ Call.Accepted → (t ≡ false) × (v ≡ Call.Accepted)
 by-fault true r v e = let z : _≡_ {A = ℕ} 0 1 = cc in absurd (omega arith)
 by-fault false r v e = (refl, e)
-
--- numbers 1, 3 and 5 do not refuse
-pub record HostAccepted (m : List ℕ) (c : Central) : Type 0 where
-  pub nonempty : 1 ≤ length m
-  pub at-most : length m ≤ 131072
-  pub words : wordsFit m ≡ true
-  pub fits : recordFits (length m) c ≡ true
-
--- numbers 9, 10 and 11 do not refuse
-pub record PackageAccepted (m : List ℕ) (at : ℕ) : Type 0 where
-  pub inside : at + 16 ≤ length m
-  pub no-stray : hasStray (part m at 16) ≡ false
-  pub field : recordAt m at .ra + recordAt m at .fl ≤ length m
 
 module _ (m : List ℕ) (c : Central) where
   pub host-accepted : hostVerdict m c ≡ Call.Accepted → HostAccepted m c
@@ -61,19 +49,19 @@ module _ (m : List ℕ) (c : Central) where
 
 module _ (m : List ℕ) (at : ℕ) where
   pub package-accepted : packageVerdict m at ≡ Call.Accepted → PackageAccepted m at
-  unfolding packageVerdict
+  unfolding packageVerdict packageInside packageClean fieldInside
   package-accepted e =
-      let t₉ = by-test (leb (at + 16) (length m)) _ _ e in
-      let t₁₀ = by-fault (hasStray (part m at 16)) _ _ (t₉ .1) in
-      let t₁₁ = by-test (leb (recordAt m at .ra + recordAt m at .fl) (length m)) _ _ (t₁₀ .1) in
+      let t₉ = by-test (packageInside m at) _ _ e in
+      let t₁₀ = by-test (packageClean m at) _ _ (t₉ .1) in
+      let t₁₁ = by-test (fieldInside m at) _ _ (t₁₀ .1) in
       record {
         inside = leb-true (at + 16) (length m) (t₉ .0);
-        no-stray = t₁₀ .0;
+        no-stray = not-true (hasStray (part m at 16)) (t₁₀ .0);
         field = leb-true (recordAt m at .ra + recordAt m at .fl) (length m) (t₁₁ .0);
       }
 
   pub of-package-accepted : PackageAccepted m at → packageVerdict m at ≡ Call.Accepted
-  unfolding packageVerdict
+  unfolding packageVerdict packageInside packageClean fieldInside
   of-package-accepted r =
       rw (
         le-leb (at + 16) (length m) (r .inside),

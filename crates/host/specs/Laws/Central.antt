@@ -9,7 +9,8 @@ use Rattle.outcome.specs.Numbers.{verdictNumber}
 use Rattle.outcome.specs.declared.refusal.Verdict.{Verdict}
 use Rattle.outcome.specs.declared.refusal.Verdict.the-variants as Call
 use Rattle.exchange.specs.Record.{hostVerdict}
-use Rattle.exchange.specs.Laws.Verdicts.{HostAccepted, host-accepted}
+use Rattle.exchange.specs.Accepted.{HostAccepted}
+use Rattle.exchange.specs.Laws.Verdicts.{host-accepted}
 use Rattle.exchange.specs.declared.record.Central.{Central}
 use Rattle.single.specs.Host.{Machine, Answered, answerTo, answerBy, turnAnswer, exchangeAnswer}
 use Rattle.single.specs.Program.{runTo, runAnswer}

@@ -1,5 +1,5 @@
 -- A sheet of one bit a code, and the definition that it follows; the length of a code. Assumes nothing.
-use mathlib.Core.Bool.{Bool, true, false, not, cond, false≢true}
+use mathlib.Core.Bool.{Bool, true, false, not, _&&_}
 use mathlib.Core.Logic.{_⊎_, inl, inr}
 use mathlib.Core.Path.{_≡_, refl, sym, subst}
 use Prim.Native.Nat.{ℕ, zero, suc, _/_, _%_, _^_, _≤_, _<_}
@@ -7,6 +7,7 @@ use native.Mathlib.Nat.{le-antisymm}
 use native.Mathlib.Omega.{arith}
 use lib.Dec.{eqb}
 use Rattle.word.specs.Laws.Choice.{le-or-lt, of-cond}
+use Rattle.word.specs.Laws.Tests.{both}
 use Rattle.instruction.specs.Instruction.{isLong, isLeftOut, parcelsOf}
 
 -- the bit of code c is set
@@ -26,11 +27,7 @@ same-is false false e = refl
 -- the sheet and the rule agree on each code below n
 unfoldable agree : ℕ → (ℕ → Bool) → ℕ → Bool
 agree sheet rule zero = true
-agree sheet rule (suc n) = cond (same (marks sheet n) (rule n)) (agree sheet rule n) false
-
-both : (a b : Bool) → cond a b false ≡ true → (a ≡ true) × (b ≡ true)
-both true b e = (refl, e)
-both false b e = absurd (false≢true e)
+agree sheet rule (suc n) = same (marks sheet n) (rule n) && agree sheet rule n
 
 at-last : (sheet : ℕ) (rule : ℕ → Bool) (n c : ℕ) → c < suc n → same (marks sheet n) (rule n) ≡ true
     → (c < n → marks sheet c ≡ rule c) → marks sheet c ≡ rule c

@@ -13,7 +13,8 @@ use Rattle.exchange.specs.Memory as Memory
 use Rattle.exchange.specs.Jump.{exchanged}
 use Rattle.exchange.specs.Laws.Record.{word-width, of-word-width}
 use Rattle.exchange.specs.Laws.Package.{count-decoded}
-use Rattle.exchange.specs.Laws.Verdicts.{HostAccepted, PackageAccepted, host-accepted, of-host-accepted, of-package-accepted}
+use Rattle.exchange.specs.Accepted.{HostAccepted, PackageAccepted}
+use Rattle.exchange.specs.Laws.Verdicts.{host-accepted, of-host-accepted, of-package-accepted}
 use Rattle.exchange.specs.Laws.Jump.{exchange-length, exchange-host-accepted}
 use Rattle.exchange.specs.declared.record.Central.{Central}
 use Rattle.machine.specs.declared.effect.Effect.{Effect}

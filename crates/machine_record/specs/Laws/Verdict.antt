@@ -15,7 +15,8 @@ use Rattle.channel.specs.declared.record.Channel.{Channel}
 use Rattle.exchange.specs.Record.{wordsFit}
 use Rattle.exchange.specs.Laws.Indexed.{all-of}
 use Rattle.exchange.specs.Laws.Record.{all-below, of-all-below}
-use Rattle.exchange.specs.Laws.Verdicts.{by-test, by-fault, HostAccepted}
+use Rattle.exchange.specs.Accepted.{HostAccepted}
+use Rattle.exchange.specs.Laws.Verdicts.{by-test, by-fault}
 use Rattle.single.specs.Laws.Host.{both-accept}
 use Rattle.machine.specs.Machine.{Machine}
 use Rattle.machine.specs.Numbers.{processorOf, channelOf, clockOf}

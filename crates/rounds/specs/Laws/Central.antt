@@ -9,7 +9,8 @@ use lib.Dec.{eqb}
 use lib.ListN.{length, getD, length-set}
 use Rattle.central.specs.State.{state}
 use Rattle.central.specs.Turn.{Run}
-use Rattle.exchange.specs.Laws.Verdicts.{HostAccepted, host-accepted, of-host-accepted}
+use Rattle.exchange.specs.Accepted.{HostAccepted}
+use Rattle.exchange.specs.Laws.Verdicts.{host-accepted, of-host-accepted}
 use Rattle.exchange.specs.Memory.{splice}
 use Rattle.exchange.specs.declared.record.Central.{Central}
 use Rattle.single.specs.Field.{fieldRun, after, ranOn}

@@ -9,8 +9,8 @@ use borrow.Author.Tests.{eq-eqb, ne-eqb}
 use lib.Dec.{lit≤}
 use lib.ListN.{length}
 use Rattle.word.specs.Laws.Choice.{of-cond}
-use Rattle.exchange.specs.Indexed.{all}
-use Rattle.exchange.specs.Laws.Verdicts.{HostAccepted}
+use Rattle.exchange.specs.Indexed.{allBelow}
+use Rattle.exchange.specs.Accepted.{HostAccepted}
 use Rattle.machine.specs.Numbers.{centralStop, clockOf}
 use Rattle.machine.specs.Machine.{Machine, machine, CentralSide}
 use Rattle.machine.specs.Widths.{Kept}
@@ -71,7 +71,7 @@ pub central-runs : (k : ℕ) (s : List ℕ) → centralStop s ≡ 0 → false �
 unfolding allStopped
 central-runs k s z = rw (eq-eqb (centralStop s) 0 z)
 
-pub others-decide : (k : ℕ) (s : List ℕ) → (centralStop s ≡ 0 → ⊥) → all k (isStopped s) ≡ allStopped k s
+pub others-decide : (k : ℕ) (s : List ℕ) → (centralStop s ≡ 0 → ⊥) → allBelow k (isStopped s) ≡ allStopped k s
 unfolding allStopped
 others-decide k s z = rw (ne-eqb (centralStop s) 0 z)
 

@@ -5,7 +5,7 @@ use native.Mathlib.Nat.{add-zero}
 use native.Mathlib.Omega.{arith}
 use lib.Dec.{lit<}
 use lib.ListN.{length}
-use Rattle.schedule.specs.Isolation.{Accepted, packageAddress, ofJob, sum, turnsAsked, NoneButLast, StopsInLastOnly, EndsAlike}
+use Rattle.schedule.specs.Isolation.{Accepted, packageAddress, ofJob, total, turnsAsked, NoneButLast, StopsInLastOnly, EndsAlike}
 use Rattle.schedule.specs.Laws.Isolation.{isolation}
 use Rattle.schedule.specs.Laws.OneJob.{oneJob, one-accepted}
 use Rattle.schedule.specs.Laws.Refusals.{accepted-ready}
@@ -29,7 +29,7 @@ module _ (s : Schedule) (a : Accepted s) (i : ℕ) (li : i < length (s .jobs)) (
   one-stint = tt
 
   asked-alone : turnsAsked (alone s i) 0 ≡ turnsAsked s i
-  unfolding ofJob sum
+  unfolding ofJob total
   asked-alone = add-zero _
 
   -- the job ends as it does alone, however its turns were cut into stints and whatever ran between them

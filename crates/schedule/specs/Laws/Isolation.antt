@@ -8,7 +8,8 @@ use Rattle.exchange.specs.Jump.{recordAt}
 use Rattle.exchange.specs.Laws.Jump.{record-at-fits, record-at-fits-package}
 use Rattle.exchange.specs.Laws.Memory.{length-part}
 use Rattle.exchange.specs.Laws.Package.{count-decoded, coded-decoded}
-use Rattle.exchange.specs.Laws.Verdicts.{HostAccepted, of-package-accepted}
+use Rattle.exchange.specs.Accepted.{HostAccepted}
+use Rattle.exchange.specs.Laws.Verdicts.{of-package-accepted}
 use Rattle.exchange.specs.Memory.{part}
 use Rattle.exchange.specs.Package.{coded, decoded}
 use Rattle.single.specs.Laws.Field.{field-kept}

@@ -7,17 +7,19 @@ use borrow.Author.Tests.{ltb-true, leb-true, eqb-true, ne-eqb, not-true}
 use lib.Dec.{ltb, leb, eqb}
 use lib.ListN.{length, getD}
 use Rattle.outcome.specs.declared.refusal.Verdict.the-variants as Call
-use Rattle.exchange.specs.Jump.{recordAt}
+use Rattle.exchange.specs.Jump.{recordAt, packageInside, packageClean, fieldInside}
 use Rattle.word.specs.Laws.Tests.{both}
 use Rattle.exchange.specs.Laws.Indexed.{all-at}
-use Rattle.exchange.specs.Laws.Verdicts.{by-test, HostAccepted, PackageAccepted, host-accepted}
+use Rattle.exchange.specs.Accepted.{HostAccepted, PackageAccepted}
+use Rattle.exchange.specs.Laws.Verdicts.{by-test, host-accepted}
 use Rattle.exchange.specs.Memory.{part}
 use Rattle.exchange.specs.Package.{hasStray}
 use Rattle.exchange.specs.Record.{hostVerdict}
 use Rattle.exchange.specs.declared.record.Central.{Central}
 use Rattle.single.specs.Laws.Host.{both-accept}
+use Rattle.single.specs.Program.{mostTurns}
 use Rattle.schedule.specs.Isolation.{Accepted}
-use Rattle.schedule.specs.Refusals.{mostJobs, mostStints, listsFit, jobsListed, turnsFit, listsVerdict, everyJob, packageInside, packageClean, fieldInside, packageMeetsField, packagesMeet, fieldsMeet, jobsApart, allApart, ownersVerdict, scheduleVerdict}
+use Rattle.schedule.specs.Refusals.{mostJobs, mostStints, listsFit, jobsListed, turnsFit, listsVerdict, everyJob, packageMeetsField, packagesMeet, fieldsMeet, jobsApart, allApart, ownersVerdict, scheduleVerdict}
 use Rattle.schedule.specs.Ready.{Ready, Listed}
 use Rattle.schedule.specs.Schedule.{Schedule}
 
@@ -28,7 +30,7 @@ pub record ListsAccepted (jobs js ts : List ℕ) : Type 0 where
   pub most-stints : length js ≤ mostStints
   pub even : length js ≡ length ts
   pub listed : Listed jobs js
-  pub turns : (k : ℕ) → k < length ts → getD ts k 0 ≤ 65535
+  pub turns : (k : ℕ) → k < length ts → getD ts k 0 ≤ mostTurns
 
 pub lists-accepted : (jobs js ts : List ℕ) → listsVerdict jobs js ts ≡ Call.Accepted → ListsAccepted jobs js ts
 unfolding listsVerdict listsFit jobsListed turnsFit
@@ -45,7 +47,7 @@ lists-accepted jobs js ts e =
       most-stints = leb-true (length js) mostStints (b₂ .1);
       even = eqb-true (length js) (length ts) (b₃ .1);
       listed = λ k h. ltb-true (getD js k 0) (length jobs) (all-at (λ i. ltb (getD js i 0) (length jobs)) (length js) (t₇ .0) k h);
-      turns = λ k h. leb-true (getD ts k 0) 65535 (all-at (λ i. leb (getD ts i 0) 65535) (length ts) (t₈ .0) k h);
+      turns = λ k h. leb-true (getD ts k 0) mostTurns (all-at (λ i. leb (getD ts i 0) mostTurns) (length ts) (t₈ .0) k h);
     }
 
 -- numbers 9 to 12 do not refuse

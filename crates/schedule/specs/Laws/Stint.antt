@@ -11,7 +11,7 @@ use Rattle.central.specs.declared.address.Bounds.{Bounds}
 use Rattle.exchange.specs.Jump.{recordAt}
 use Rattle.exchange.specs.Laws.Memory.{part-same}
 use Rattle.exchange.specs.Laws.Package.{coded-no-stray}
-use Rattle.exchange.specs.Laws.Verdicts.{HostAccepted}
+use Rattle.exchange.specs.Accepted.{HostAccepted}
 use Rattle.exchange.specs.Memory.{part}
 use Rattle.exchange.specs.Package.{hasStray, decoded}
 use Rattle.exchange.specs.declared.record.Central.{Central}

@@ -7,13 +7,13 @@ use Rattle.central.specs.Laws.Run.{RunLeft, run-left, turns-then-turns}
 use Rattle.central.specs.State.{state}
 use Rattle.central.specs.Turn.{turnsBefore, turnsOf}
 use Rattle.central.specs.Widths.{Kept}
-use Rattle.exchange.specs.Laws.Package.{decoded-coded}
+use Rattle.exchange.specs.Laws.Package.{running, decoded-coded}
 use Rattle.exchange.specs.Package.{coded, decoded}
-use Rattle.exchange.specs.Record.{FitsPackage, running}
+use Rattle.exchange.specs.Record.{FitsPackage}
 use Rattle.exchange.specs.declared.record.Central.{Central}
 use Rattle.single.specs.Field.{boundsOf, recordAfter}
 use Rattle.single.specs.Laws.Field.{after-fits-package}
-use Rattle.schedule.specs.Isolation.{sum, lastOf, NoneButLast}
+use Rattle.schedule.specs.Isolation.{total, lastOf, NoneButLast}
 use Rattle.schedule.specs.Job.{Job, jobRun, jobAfter, JobStint, jobStint, JobEnd, jobStints}
 
 -- a job with its widths
@@ -63,7 +63,7 @@ module _ (w : Job) (f : Fit w) (n : ℕ) where
 
 -- the job after its stints, the turns made in all and the stop of the last
 abbrev pub totalOf : JobEnd → JobStint
-totalOf l = record { job = l .job; turns = sum (l .turns); stop = lastOf (l .stops) }
+totalOf l = record { job = l .job; turns = total (l .turns); stop = lastOf (l .stops) }
 
 abbrev madeBefore : ℕ → JobStint → JobStint
 madeBefore n o = record { job = o .job; turns = n + o .turns; stop = o .stop }
@@ -73,12 +73,12 @@ one-more : (t k : ℕ) (w : Job) → Fit w → jobRun t w .end .stop ≡ 0
 one-more t k w f going = rw (after-on w f t k going, run-on w f t k going)
 
 some-stints : (t : ℕ) (ts : List ℕ) (w : Job) → Fit w → NoneButLast (jobStints (t ∷ ts) w .stops)
-    → totalOf (jobStints (t ∷ ts) w) ≡ jobStint (sum (t ∷ ts)) w
-unfolding jobStints sum lastOf NoneButLast
+    → totalOf (jobStints (t ∷ ts) w) ≡ jobStint (total (t ∷ ts)) w
+unfolding jobStints total lastOf NoneButLast
 some-stints t [] w f last = rw (add-zero t, add-zero (jobRun t w .end .turns))
 some-stints t (u ∷ ts) w f last =
     ap (madeBefore (jobRun t w .end .turns)) (some-stints u ts (jobAfter w (jobRun t w)) (fit-after w f t) (last .1))
-    ∙ one-more t (sum (u ∷ ts)) w f (last .0)
+    ∙ one-more t (total (u ∷ ts)) w f (last .0)
 
 -- a stint of no turns leaves a package without stray bits as it was
 no-turns : (w : Job) → coded (decoded (w .packageWords)) ≡ w .packageWords → jobStint 0 w ≡ record { job = w; turns = 0; stop = 0 }
@@ -86,7 +86,7 @@ unfolding turnsOf decoded
 no-turns w clean = λ x. record { job = record { packageWords = clean x; fieldWords = w .fieldWords }; turns = 0; stop = 0 }
 
 pub stints-sum : (ts : List ℕ) (w : Job) → Fit w → coded (decoded (w .packageWords)) ≡ w .packageWords → NoneButLast (jobStints ts w .stops)
-    → totalOf (jobStints ts w) ≡ jobStint (sum ts) w
-unfolding jobStints sum lastOf
+    → totalOf (jobStints ts w) ≡ jobStint (total ts) w
+unfolding jobStints total lastOf
 stints-sum [] w f clean last = sym (no-turns w clean)
 stints-sum (t ∷ ts) w f clean last = some-stints t ts w f last

@@ -4,17 +4,17 @@ use mathlib.Core.Path.{_≡_, refl, sym, ap, subst, _∙_}
 use Prim.Native.Nat.{ℕ, suc, _<_}
 use native.Mathlib.Omega.{arith}
 use lib.ListN.{length, getD}
-use Rattle.outcome.specs.declared.refusal.Refusal.{Refusal}
+use Rattle.outcome.specs.Laws.{either}
 use Rattle.outcome.specs.declared.refusal.Verdict.the-variants as Call
 use Rattle.outcome.specs.declared.refusal.Verdict.{Verdict}
 use Rattle.exchange.specs.declared.record.Central.{Central}
 use Rattle.single.specs.Stint.{stintOf}
-use Rattle.schedule.specs.Isolation.{Accepted, start, packageIn, fieldIn, ofJob, sum, lastOf, NoneButLast, Alike, OutsideJobs}
+use Rattle.schedule.specs.Isolation.{Accepted, start, packageIn, fieldIn, ofJob, total, lastOf, NoneButLast, Alike, OutsideJobs}
 use Rattle.schedule.specs.Laws.Isolation.{isolation, rest-kept, record-kept}
 use Rattle.schedule.specs.Laws.Refusals.{accepted-lists}
 use Rattle.schedule.specs.Refusals.{scheduleVerdict}
 use Rattle.schedule.specs.Schedule.{Schedule, stintsOf, scheduleEnd}
-use Rattle.shared.specs.Answer.{Answered, answerBy, scheduleAnswer}
+use Rattle.shared.specs.Answer.{answerBy, scheduleAnswer}
 
 -- a call that is carried out, by its answer
 pub record CarriedOut (s : Schedule) : Type 0 where
@@ -31,7 +31,7 @@ stopsOfJob s i = ofJob i (s .stintJobs) (scheduleAnswer s .answer .stops)
 pub record AnswersAlike (s : Schedule) (i : ℕ) (s′ : Schedule) (i′ : ℕ) : Type 0 where
   pub packages : packageIn s i (scheduleAnswer s .memory) ≡ packageIn s′ i′ (scheduleAnswer s′ .memory)
   pub fields : fieldIn s i (scheduleAnswer s .memory) ≡ fieldIn s′ i′ (scheduleAnswer s′ .memory)
-  pub made : sum (turnsOfJob s i) ≡ sum (turnsOfJob s′ i′)
+  pub made : total (turnsOfJob s i) ≡ total (turnsOfJob s′ i′)
   pub stop : lastOf (stopsOfJob s i) ≡ lastOf (stopsOfJob s′ i′)
 
 -- the answer's verdict
@@ -93,20 +93,20 @@ answers-alike s s′ a a′ i i′ li li′ last last′ alike =
 
 -- accepted or refused: the record comes back as it was, memory keeps its length, and each word outside the listed packages and fields its value
 module _ (s : Schedule) (count : length (s .central .registers) ≡ 24) where
-  either : (P : Answered → Type 0) → (Accepted s → P (answerBy Call.Accepted s)) → ((r : Refusal) → P (answerBy (Call.Refused r) s))
-      → P (scheduleAnswer s)
-  unfolding scheduleAnswer
-  either P done refused = by-verdict (scheduleVerdict s) refl
-    where
-      by-verdict : (v : Verdict) → scheduleVerdict s ≡ v → P (answerBy v s)
-      by-verdict Call.Accepted e = done (record { verdict = e; registers = count })
-      by-verdict (Call.Refused r) e = refused r
+  taken : scheduleVerdict s ≡ Call.Accepted → Accepted s
+  taken e = record { verdict = e; registers = count }
 
   pub record-back : scheduleAnswer s .answer .central ≡ s .central
-  record-back = either (λ o. o .answer .central ≡ s .central) (λ a. record-kept s a) (λ r. refl)
+  unfolding scheduleAnswer
+  record-back = either (λ v. answerBy v s .answer .central ≡ s .central) (scheduleVerdict s) (λ e. record-kept s (taken e)) (λ r. refl)
 
   pub length-back : length (scheduleAnswer s .memory) ≡ length (start s)
-  length-back = either (λ o. length (o .memory) ≡ length (start s)) (λ a. rest-kept s a .0) (λ r. refl)
+  unfolding scheduleAnswer
+  length-back =
+      either (λ v. length (answerBy v s .memory) ≡ length (start s)) (scheduleVerdict s) (λ e. rest-kept s (taken e) .0) (λ r. refl)
 
   pub word-back : (x : ℕ) → OutsideJobs s x → getD (scheduleAnswer s .memory) x 0 ≡ getD (start s) x 0
-  word-back x out = either (λ o. getD (o .memory) x 0 ≡ getD (start s) x 0) (λ a. rest-kept s a .1 x out) (λ r. refl)
+  unfolding scheduleAnswer
+  word-back x out =
+      either (λ v. getD (answerBy v s .memory) x 0 ≡ getD (start s) x 0) (scheduleVerdict s)
+      (λ e. rest-kept s (taken e) .1 x out) (λ r. refl)

@@ -6,9 +6,9 @@ use Prim.Native.Nat.{ℕ, _+_, _≤_, _<_}
 use native.Mathlib.Omega.{arith}
 use borrow.Author.Tests.{leb-true}
 use lib.ListN.{length, getD}
-use Rattle.exchange.specs.Jump.{recordAt}
+use Rattle.exchange.specs.Jump.{recordAt, packageInside, fieldInside}
 use Rattle.exchange.specs.Laws.Indexed.{all-at}
-use Rattle.schedule.specs.Refusals.{everyJob, packageInside, fieldInside}
+use Rattle.schedule.specs.Refusals.{everyJob}
 use Rattle.shared.specs.Owners.{Inside}
 
 module _ (m jobs : List ℕ) (i : ℕ) (l : i < length jobs) where

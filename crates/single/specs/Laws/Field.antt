@@ -17,7 +17,7 @@ use Rattle.exchange.specs.Memory.{part}
 use Rattle.exchange.specs.Record.{FitsPackage, registerWidth}
 use Rattle.exchange.specs.Laws.Memory.{length-part, part-lt, part-splice, length-splice, splice-lt, word-below, word-above}
 use Rattle.exchange.specs.Laws.Record.{Fits, fits, of-fits, word-width, of-word-width}
-use Rattle.exchange.specs.Laws.Verdicts.{HostAccepted}
+use Rattle.exchange.specs.Accepted.{HostAccepted}
 use Rattle.exchange.specs.declared.record.Central.{Central}
 use Rattle.single.specs.Field.{boundsOf, recordAfter, fieldRun, ranOn}
 

@@ -14,7 +14,8 @@ use Rattle.central.specs.Laws.Run.{turns-one}
 use Rattle.exchange.specs.Memory.{part}
 use Rattle.exchange.specs.Record.{hostVerdict}
 use Rattle.exchange.specs.Jump.{packageVerdict}
-use Rattle.exchange.specs.Laws.Verdicts.{HostAccepted, PackageAccepted, host-accepted, of-host-accepted, package-accepted}
+use Rattle.exchange.specs.Accepted.{HostAccepted, PackageAccepted}
+use Rattle.exchange.specs.Laws.Verdicts.{host-accepted, of-host-accepted, package-accepted}
 use Rattle.exchange.specs.declared.record.Central.{Central}
 use Rattle.single.specs.Order.{orElse}
 use Rattle.single.specs.Field.{boundsOf, RanMemory, ranOn}

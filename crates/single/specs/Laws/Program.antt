@@ -6,16 +6,15 @@ use Prim.Native.Nat.{ℕ, _+_, _≤_, _<_}
 use lib.Dec.{ltb}
 use lib.ListN.{length, getD}
 use Rattle.outcome.specs.declared.refusal.Refusal.the-variants as Because
-use Rattle.outcome.specs.declared.refusal.Refusal.{Refusal}
 use Rattle.outcome.specs.declared.refusal.Verdict.the-variants as Call
-use Rattle.outcome.specs.declared.refusal.Verdict.{Verdict}
+use Rattle.outcome.specs.Laws.{either}
 use Rattle.exchange.specs.Record.{hostVerdict}
 use Rattle.exchange.specs.Jump.{recordAt, packageVerdict}
 use Rattle.exchange.specs.Laws.Verdicts.{by-fault, host-accepted, package-accepted}
 use Rattle.exchange.specs.declared.record.Central.{Central}
 use Rattle.single.specs.Overlap.{sharesWord}
 use Rattle.single.specs.Stint.{stintOf, Accepted}
-use Rattle.single.specs.Program.{overlapVerdict, ownerVerdict, runVerdict, RunAnswered, runAnswerBy, runAnswer}
+use Rattle.single.specs.Program.{mostTurns, overlapVerdict, ownerVerdict, runVerdict, runAnswerBy, runAnswer}
 use Rattle.single.specs.Laws.Stint.{stint-record, stint-outside}
 use Rattle.single.specs.Laws.Host.{both-accept}
 
@@ -23,7 +22,7 @@ pub accepted : (m : List ℕ) (c : Central) (at n : ℕ) → runVerdict m c at n
 unfolding runVerdict ownerVerdict overlapVerdict
 accepted m c at n e =
     let first = both-accept (hostVerdict m c) (ownerVerdict m at n) e in
-    let turns = by-fault (ltb 65535 n) Because.TooManyTurns _ (first .1) in
+    let turns = by-fault (ltb mostTurns n) Because.TooManyTurns _ (first .1) in
     let packages = both-accept (packageVerdict m at) (overlapVerdict m at) (turns .1) in
     record {
       host = host-accepted m c (first .0);
@@ -32,23 +31,17 @@ accepted m c at n e =
     }
 
 module _ (m : List ℕ) (c : Central) (at n : ℕ) where
-  -- what holds of an accepted call and of each refusal
-  either : (P : RunAnswered → Type 0)
-      → (Accepted m c at → P (runAnswerBy Call.Accepted m c (stintOf m c at n)))
-      → ((r : Refusal) → P (runAnswerBy (Call.Refused r) m c (stintOf m c at n)))
-      → P (runAnswer m c at n)
-  unfolding runAnswer
-  either P done refused = by-verdict (runVerdict m c at n) refl
-    where
-      by-verdict : (v : Verdict) → runVerdict m c at n ≡ v → P (runAnswerBy v m c (stintOf m c at n))
-      by-verdict Call.Accepted e = done (accepted m c at n e)
-      by-verdict (Call.Refused r) e = refused r
-
   -- "hands the central record back as it was, stop included": accepted or refused
   pub run-record : length (c .registers) ≡ 24 → runAnswer m c at n .answer .central ≡ c
-  run-record count = either (λ o. o .answer .central ≡ c) (λ a. stint-record m c at a n count) (λ r. refl)
+  unfolding runAnswer
+  run-record count =
+      either (λ v. runAnswerBy v m c (stintOf m c at n) .answer .central ≡ c) (runVerdict m c at n)
+      (λ e. stint-record m c at (accepted m c at n e) n count) (λ r. refl)
 
   -- no word outside the package and its field changes
   pub run-outside : (i : ℕ) → (i < at) ⊎ (at + 16 ≤ i) → (i < recordAt m at .ra) ⊎ (recordAt m at .ra + recordAt m at .fl ≤ i)
       → getD (runAnswer m c at n .memory) i 0 ≡ getD m i 0
-  run-outside i p f = either (λ o. getD (o .memory) i 0 ≡ getD m i 0) (λ a. stint-outside m c at a n i p f) (λ r. refl)
+  unfolding runAnswer
+  run-outside i p f =
+      either (λ v. getD (runAnswerBy v m c (stintOf m c at n) .memory) i 0 ≡ getD m i 0) (runVerdict m c at n)
+      (λ e. stint-outside m c at (accepted m c at n e) n i p f) (λ r. refl)

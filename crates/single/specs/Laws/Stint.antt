@@ -10,12 +10,13 @@ use Rattle.central.specs.State.{state}
 use Rattle.central.specs.Turn.{Run}
 use Rattle.exchange.specs.Memory.{part}
 use Rattle.exchange.specs.Package.{coded, decoded}
-use Rattle.exchange.specs.Record.{FitsPackage, running, wordsFit}
+use Rattle.exchange.specs.Record.{FitsPackage, wordsFit}
 use Rattle.exchange.specs.Jump.{recordAt, Exchanged, exchanged}
 use Rattle.exchange.specs.Laws.Memory.{part-same, part-splice}
 use Rattle.exchange.specs.Laws.Record.{fits}
-use Rattle.exchange.specs.Laws.Package.{count-decoded, decoded-coded}
-use Rattle.exchange.specs.Laws.Verdicts.{HostAccepted, host-accepted, of-host-accepted, of-package-accepted}
+use Rattle.exchange.specs.Laws.Package.{running, count-decoded, decoded-coded}
+use Rattle.exchange.specs.Accepted.{HostAccepted}
+use Rattle.exchange.specs.Laws.Verdicts.{host-accepted, of-host-accepted, of-package-accepted}
 use Rattle.exchange.specs.Laws.Jump.{exchange-length, exchange-package, exchange-below, exchange-above, exchange-words, exchange-host-accepted}
 use Rattle.exchange.specs.declared.record.Central.{Central}
 use Rattle.single.specs.Field.{RanMemory, recordAfter, turnsOn, fieldRun, ranOn}

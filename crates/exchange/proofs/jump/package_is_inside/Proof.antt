@@ -10,11 +10,11 @@ use Rattle.exchange.proofs.jump.package_is_inside.Tie as tie
 returns : tie.Need-returns
 returns c =
     let a = c .before .args in
-    rw (lt-leb (a .at + 16) (a .length) (omega arith))
+    rw (lt-leb (a .at + 16) (a .words) (omega arith))
 
 returns-2 : tie.Need-returns-2
 returns-2 c =
-    let n = c .before .args .length in
+    let n = c .before .args .words in
     let at = c .before .args .at in
     ⊎-elim
     (λ h. rw (le-leb at (n - 16) h, le-leb (at + 16) n (omega arith)))

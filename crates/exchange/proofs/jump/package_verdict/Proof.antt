@@ -1,13 +1,11 @@
 -- `exchange::jump::package_verdict` meets its contract. Assumes nothing.
 use mathlib.Core.Path.{sym, _∙_}
 use Prim.Native.Nat.{_+_}
-use native.Mathlib.Omega.{arith}
-use borrow.Author.Tests.{leb-true, le-leb, lt-leb}
+use borrow.Author.Tests.{leb-true}
 use borrow.Author.Needs.{needs}
 use lib.ListN.{length}
-use Rattle.exchange.specs.Memory.{part}
-use Rattle.exchange.specs.Jump.{packageVerdict}
-use Rattle.exchange.specs.Laws.Package.{field-width}
+use Rattle.exchange.specs.Jump.{packageInside, packageClean, packageVerdict}
+use Rattle.word.specs.Laws.Tests.{holds, fails}
 use Rattle.exchange.proofs.jump.package_verdict.Statement.{statement}
 use Rattle.exchange.proofs.jump.package_verdict.Tie as tie
 
@@ -20,46 +18,38 @@ has-stray-requires c κs =
     leb-true (a .at + 16) (length (a .m .now)) (sym (c .before .package-is-inside .ensures) ∙ c .if1 .taken)
 
 returns : tie.Need-returns
-unfolding packageVerdict
+unfolding packageVerdict packageInside packageClean
 returns c =
     rw (
       sym (c .before .before .before .package-is-inside .ensures) ∙ c .before .before .if1 .taken,
       sym (c .before .has-stray .ensures) ∙ c .if2 .taken,
     )
 
-load-requires : tie.Need-load-requires
-load-requires c κs =
+field-inside-requires : tie.Need-field-inside-requires
+field-inside-requires c κs =
     let a = c .before .before .before .before .before .args in
     leb-true (a .at + 16) (length (a .m .now)) (sym (c .before .before .before .package-is-inside .ensures) ∙ c .before .before .if1 .taken)
 
-add-if3 : tie.Need-add-if3
-add-if3 c =
-    let a = c .before .before .before .before .before .before .before .args in
-    let width = rw (← c .before .load .ensures) at (field-width (part (a .m .now) (a .at) 16)) in
-    omega arith
-
 returns-2 : tie.Need-returns-2
-unfolding packageVerdict
+unfolding packageVerdict packageInside packageClean
 returns-2 c =
     rw (
-      sym (c .before .before .before .before .before .before .package-is-inside .ensures) ∙ c .before .before .before .before .before .if1 .taken,
-      sym (c .before .before .before .before .has-stray .ensures) ∙ c .before .before .before .if2 .left,
-      ← c .before .before .load .ensures,
-      lt-leb _ _ (c .if3 .taken),
+      sym (c .before .before .before .before .before .package-is-inside .ensures) ∙ c .before .before .before .before .if1 .taken,
+      sym (c .before .before .before .has-stray .ensures) ∙ c .before .before .if2 .left,
+      fails (c .before .field-inside .ensures) (c .if3 .taken),
     )
 
 returns-3 : tie.Need-returns-3
-unfolding packageVerdict
+unfolding packageVerdict packageInside packageClean
 returns-3 c =
     rw (
-      sym (c .before .before .before .before .before .before .package-is-inside .ensures) ∙ c .before .before .before .before .before .if1 .taken,
-      sym (c .before .before .before .before .has-stray .ensures) ∙ c .before .before .before .if2 .left,
-      ← c .before .before .load .ensures,
-      le-leb _ _ (c .if3 .left),
+      sym (c .before .before .before .before .before .package-is-inside .ensures) ∙ c .before .before .before .before .if1 .taken,
+      sym (c .before .before .before .has-stray .ensures) ∙ c .before .before .if2 .left,
+      holds (c .before .field-inside .ensures) (c .if3 .left),
     )
 
 returns-4 : tie.Need-returns-4
-unfolding packageVerdict
+unfolding packageVerdict packageInside packageClean
 returns-4 c = rw (sym (c .before .package-is-inside .ensures) ∙ c .if1 .left)
 
 pub package-verdict-spec : {M : Type 1} → statement M
@@ -69,8 +59,7 @@ package-verdict-spec =
     package-is-inside-requires
     has-stray-requires
     returns
-    load-requires
-    add-if3
+    field-inside-requires
     returns-2
     returns-3
     returns-4)

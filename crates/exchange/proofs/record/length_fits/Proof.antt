@@ -5,10 +5,10 @@ use Rattle.exchange.proofs.record.length_fits.Statement.{statement}
 use Rattle.exchange.proofs.record.length_fits.Tie as tie
 
 returns : tie.Need-returns
-returns c = rw (lt-leb 1 (c .before .args .length) (omega arith))
+returns c = rw (lt-leb 1 (c .before .args .words) (omega arith))
 
 returns-2 : tie.Need-returns-2
-returns-2 c = rw (le-leb 1 (c .before .args .length) (omega arith))
+returns-2 c = rw (le-leb 1 (c .before .args .words) (omega arith))
 
 pub length-fits-spec : {M : Type 1} → statement M
 length-fits-spec = tie.close (tie.spec returns returns-2)

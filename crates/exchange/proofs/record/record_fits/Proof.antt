@@ -33,7 +33,7 @@ returns-4 : tie.Need-returns-4
 unfolding recordFits
 returns-4 c =
     let t = c .before .before .before .before .args .t1 in
-    let n = c .before .before .before .before .args .length in
+    let n = c .before .before .before .before .args .words in
     rw (
       lt-ltb (t .p) (2 ^ 18) (omega arith),
       lt-ltb (t .ra) (2 ^ 18) (omega arith),
@@ -45,7 +45,7 @@ returns-5 : tie.Need-returns-5
 unfolding recordFits
 returns-5 c =
     let t = c .before .before .before .before .before .args .t1 in
-    let n = c .before .before .before .before .before .args .length in
+    let n = c .before .before .before .before .before .args .words in
     rw (
       lt-ltb (t .p) (2 ^ 18) (omega arith),
       lt-ltb (t .ra) (2 ^ 18) (omega arith),
@@ -61,7 +61,7 @@ returns-6 : tie.Need-returns-6
 unfolding recordFits
 returns-6 c =
     let t = c .before .before .before .before .before .before .before .args .t1 in
-    let n = c .before .before .before .before .before .before .before .args .length in
+    let n = c .before .before .before .before .before .before .before .args .words in
     rw (
       lt-ltb (t .p) (2 ^ 18) (omega arith),
       lt-ltb (t .ra) (2 ^ 18) (omega arith),
@@ -81,7 +81,7 @@ returns-7 : tie.Need-returns-7
 unfolding recordFits
 returns-7 c =
     let t = c .before .before .before .before .before .before .before .before .before .before .before .args .t1 in
-    let n = c .before .before .before .before .before .before .before .before .before .before .before .args .length in
+    let n = c .before .before .before .before .before .before .before .before .before .before .before .args .words in
     rw (
       lt-ltb (t .p) (2 ^ 18) (omega arith),
       lt-ltb (t .ra) (2 ^ 18) (omega arith),
@@ -97,7 +97,7 @@ returns-8 : tie.Need-returns-8
 unfolding recordFits
 returns-8 c =
     let t = c .before .before .before .before .before .before .before .before .before .args .t1 in
-    let n = c .before .before .before .before .before .before .before .before .before .args .length in
+    let n = c .before .before .before .before .before .before .before .before .before .args .words in
     rw (
       lt-ltb (t .p) (2 ^ 18) (omega arith),
       lt-ltb (t .ra) (2 ^ 18) (omega arith),

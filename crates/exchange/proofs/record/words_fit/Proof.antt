@@ -1,63 +1,15 @@
 -- `exchange::record::words_fit` meets its contract. Assumes nothing.
-use Prim.Native.Nat.{_-_, _^_}
-use native.Mathlib.Omega.{arith}
 use borrow.Author.Needs.{needs}
-use borrow.Author.Tests.{lt-ltb, le-ltb}
-use lib.ListN.{getD, length}
-use Rattle.exchange.specs.Record.{wordFits, wordsFit}
-use Rattle.exchange.specs.Laws.Indexed.{Passed, none-yet, one-more, all-passed, one-fails}
+use Rattle.exchange.specs.Record.{wordsFit}
 use Rattle.exchange.proofs.record.words_fit.Statement.{statement}
 use Rattle.exchange.proofs.record.words_fit.Tie as tie
 
-abbrev Inv-loop : tie.InvT-loop
-Inv-loop m i₀ i = Passed (wordFits m) (length m) i
+all-below-requires : tie.Need-all-below-requires
+all-below-requires c κs = search needs
 
-abbrev μ-loop : tie.MeasureT-loop
-μ-loop m i₀ i = length m - i
-
-loop-holds : tie.Need-loop-holds Inv-loop μ-loop
-loop-holds c = none-yet _ _
-
-mul-if1 : tie.Need-mul-if1 Inv-loop μ-loop
-mul-if1 c = search needs
-
-shared-slice-read-if1 : tie.Need-shared-slice-read-if1 Inv-loop μ-loop
-shared-slice-read-if1 c = search needs
-
-returns : tie.Need-returns Inv-loop μ-loop
+returns : tie.Need-returns
 unfolding wordsFit
-returns c =
-    let m = c .before .before .before .before .args .m .now in
-    let i = c .before .before .before .loop .i in
-    one-fails (wordFits m) (length m) i (c .before .before .loop-test .taken) (le-ltb (getD m i 0) (2 ^ 60) (omega arith))
-
-add-i : tie.Need-add-i Inv-loop μ-loop
-add-i c = omega arith
-
-loop-less : tie.Need-loop-less Inv-loop μ-loop
-loop-less c = omega arith
-
-loop-again : tie.Need-loop-again Inv-loop μ-loop
-loop-again c =
-    let m = c .before .before .before .before .args .m .now in
-    let i = c .before .before .before .loop .i in
-    one-more (wordFits m) (length m) i (c .before .before .before .loop .inv) (c .before .before .loop-test .taken) (lt-ltb (getD m i 0) (2 ^ 60) (omega arith))
-
-returns-2 : tie.Need-returns-2 Inv-loop μ-loop
-unfolding wordsFit
-returns-2 c = all-passed _ _ _ (c .before .loop .inv) (c .loop-test .left)
+returns c = c .all-below .ensures
 
 pub words-fit-spec : {M : Type 1} → statement M
-words-fit-spec =
-    tie.close
-    (tie.spec
-    Inv-loop
-    μ-loop
-    loop-holds
-    mul-if1
-    shared-slice-read-if1
-    returns
-    add-i
-    loop-less
-    loop-again
-    returns-2)
+words-fit-spec = tie.close (tie.spec all-below-requires returns)

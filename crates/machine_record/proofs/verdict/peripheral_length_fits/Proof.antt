@@ -7,18 +7,18 @@ use Rattle.machine_record.proofs.verdict.peripheral_length_fits.Tie as 
 
 returns : tie.Need-returns
 unfolding peripheralLengthFits
-returns c = rw (lt-leb 4096 (c .before .args .length) (omega arith))
+returns c = rw (lt-leb 4096 (c .before .args .words) (omega arith))
 
 returns-2 : tie.Need-returns-2
 unfolding peripheralLengthFits
 returns-2 c =
-    let n = c .before .before .args .length in
+    let n = c .before .before .args .words in
     rw (le-leb 4096 n (omega arith), lt-leb n 40960 (omega arith))
 
 returns-3 : tie.Need-returns-3
 unfolding peripheralLengthFits
 returns-3 c =
-    let n = c .before .before .args .length in
+    let n = c .before .before .args .words in
     rw (le-leb 4096 n (omega arith), le-leb n 40960 (omega arith))
 
 pub peripheral-length-fits-spec : {M : Type 1} → statement M

@@ -1,60 +1,18 @@
 -- `shared::lists::turns_fit` meets its contract. Assumes nothing.
-use Prim.Native.Nat.{_-_}
-use native.Mathlib.Omega.{arith}
+use mathlib.Core.Path.{_∙_}
 use borrow.Author.Needs.{needs}
-use borrow.Author.Tests.{le-leb, lt-leb}
-use lib.Dec.{leb}
-use lib.ListN.{length, getD}
-use Rattle.exchange.specs.Laws.Indexed.{Passed, none-yet, one-more, all-passed, one-fails}
+use Rattle.exchange.specs.Laws.Record.{below-suc}
+use Rattle.single.specs.Program.{mostTurns}
 use Rattle.schedule.specs.Refusals.{turnsFit}
 use Rattle.shared.proofs.lists.turns_fit.Statement.{statement}
 use Rattle.shared.proofs.lists.turns_fit.Tie as tie
 
-abbrev Inv-loop : tie.InvT-loop
-Inv-loop ts i₀ i = Passed (λ k. leb (getD ts k 0) 65535) (length ts) i
+all-below-requires : tie.Need-all-below-requires
+all-below-requires c κs = search needs
 
-abbrev μ-loop : tie.MeasureT-loop
-μ-loop ts i₀ i = length ts - i
-
-loop-holds : tie.Need-loop-holds Inv-loop μ-loop
-loop-holds c = none-yet _ _
-
-mul-if1 : tie.Need-mul-if1 Inv-loop μ-loop
-mul-if1 c = search needs
-
-shared-slice-read-if1 : tie.Need-shared-slice-read-if1 Inv-loop μ-loop
-shared-slice-read-if1 c = search needs
-
-returns : tie.Need-returns Inv-loop μ-loop
+returns : tie.Need-returns
 unfolding turnsFit
-returns c = one-fails _ _ _ (c .before .before .loop-test .taken) (lt-leb _ _ (c .if1 .taken))
-
-add-i : tie.Need-add-i Inv-loop μ-loop
-add-i c = omega arith
-
-loop-less : tie.Need-loop-less Inv-loop μ-loop
-loop-less c = omega arith
-
-loop-again : tie.Need-loop-again Inv-loop μ-loop
-loop-again c =
-    let body = c .before .before in
-    one-more _ _ _ (body .before .loop .inv) (body .loop-test .taken) (le-leb _ _ (c .if1 .left))
-
-returns-2 : tie.Need-returns-2 Inv-loop μ-loop
-unfolding turnsFit
-returns-2 c = all-passed _ _ _ (c .before .loop .inv) (c .loop-test .left)
+returns c = c .all-below .ensures ∙ below-suc mostTurns (c .before .before .args .ts .now)
 
 pub turns-fit-spec : {M : Type 1} → statement M
-turns-fit-spec =
-    tie.close
-    (tie.spec
-    Inv-loop
-    μ-loop
-    loop-holds
-    mul-if1
-    shared-slice-read-if1
-    returns
-    add-i
-    loop-less
-    loop-again
-    returns-2)
+turns-fit-spec = tie.close (tie.spec all-below-requires returns)

@@ -2,7 +2,7 @@
 use Prim.Native.Nat.{_-_}
 use native.Mathlib.Omega.{arith}
 use lib.ListN.{length}
-use Rattle.exchange.specs.Indexed.{all}
+use Rattle.exchange.specs.Indexed.{allBelow}
 use Rattle.exchange.specs.Laws.Indexed.{Passed, none-yet, one-more, all-passed, one-fails}
 use Rattle.schedule.specs.Refusals.{jobsApart, allApart}
 use Rattle.word.specs.Laws.Tests.{holds, fails}
@@ -10,7 +10,7 @@ use Rattle.shared.proofs.owners.all_apart.Statement.{statement}
 use Rattle.shared.proofs.owners.all_apart.Tie as tie
 
 abbrev Inv-loop : tie.InvT-loop
-Inv-loop m jobs i₀ i = Passed (λ k. all (length jobs) (jobsApart m jobs k)) (length jobs) i
+Inv-loop m jobs i₀ i = Passed (λ k. allBelow (length jobs) (jobsApart m jobs k)) (length jobs) i
 
 abbrev μ-loop : tie.MeasureT-loop
 μ-loop m jobs i₀ i = length jobs - i

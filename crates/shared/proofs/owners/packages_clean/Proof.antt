@@ -6,7 +6,7 @@ use native.Mathlib.Omega.{arith}
 use borrow.Author.Needs.{needs}
 use lib.ListN.{length, getD}
 use Rattle.exchange.specs.Laws.Indexed.{Passed, none-yet, one-more, all-passed, one-fails}
-use Rattle.schedule.specs.Refusals.{packageClean}
+use Rattle.exchange.specs.Jump.{packageClean}
 use Rattle.shared.specs.Laws.Owners.{package-inside}
 use Rattle.shared.proofs.owners.packages_clean.Statement.{statement}
 use Rattle.shared.proofs.owners.packages_clean.Tie as tie

@@ -1,11 +1,11 @@
--- `shared::owners::field_inside` meets its contract. Assumes nothing.
+-- `exchange::jump::field_inside` meets its contract. Assumes nothing.
 use native.Mathlib.Omega.{arith}
 use borrow.Author.Needs.{needs}
 use Rattle.exchange.specs.Laws.Package.{field-width}
 use Rattle.exchange.specs.Memory.{part}
-use Rattle.schedule.specs.Refusals.{fieldInside}
-use Rattle.shared.proofs.owners.field_inside.Statement.{statement}
-use Rattle.shared.proofs.owners.field_inside.Tie as tie
+use Rattle.exchange.specs.Jump.{fieldInside}
+use Rattle.exchange.proofs.jump.field_inside.Statement.{statement}
+use Rattle.exchange.proofs.jump.field_inside.Tie as tie
 
 load-requires : tie.Need-load-requires
 load-requires c κs = search needs
