@@ -1,5 +1,4 @@
 -- Consequences of the definitions. Assumes nothing.
-pub mod Widths
 pub mod Step
 pub mod Turn
 pub mod Run

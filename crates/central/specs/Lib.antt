@@ -1,8 +1,3 @@
--- The definitions that the contracts of `central` cite, in the order of a turn, over those of `instruction`. A reader has to believe these, but
--- for `Widths`, which only says what the functions ask for; `Laws` is proved from them.
-pub mod State
-pub mod Address
-pub mod Apply
+-- The definitions that the contracts of `central` cite, over those of `central_state`. A reader has to believe these; `Laws` is proved from them.
 pub mod Turn
-pub mod Widths
 pub mod Laws

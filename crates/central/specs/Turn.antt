@@ -7,16 +7,16 @@ use Rattle.outcome.specs.declared.stop.CentralStop.the-variants as Because
 use Rattle.outcome.specs.Numbers.{centralStopNumber}
 use Rattle.outcome.specs.declared.stop.CentralStop.{CentralStop}
 use Rattle.instruction.specs.Instruction.{decoded, isFit, parcelsOf}
-use Rattle.instruction.specs.Effects.{effectOf}
+use Rattle.central_effect.specs.Effects.{effectOf}
 use Rattle.instruction.specs.declared.instruction.Instruction.{Instruction}
-use Rattle.central.specs.declared.apply.Step.the-variants as Then
-use Rattle.central.specs.State.{State}
-use Rattle.central.specs.Address.{placeOf, relative, indexOf}
-use Rattle.central.specs.Apply.{After, after, applied}
-use Rattle.central.specs.declared.address.Bounds.{Bounds}
-use Rattle.central.specs.declared.address.Place.{Place}
-use Rattle.central.specs.declared.address.Place.the-variants.{Inside, Outside}
-use Rattle.central.specs.declared.apply.Step.{Step}
+use Rattle.central_state.specs.declared.apply.Step.the-variants as Then
+use Rattle.central_state.specs.State.{State}
+use Rattle.field_test.specs.Address.{placeOf, relative, indexOf}
+use Rattle.central_state.specs.Apply.{After, after, applied}
+use Rattle.field_test.specs.declared.address.Bounds.{Bounds}
+use Rattle.field_test.specs.declared.address.Place.{Place}
+use Rattle.field_test.specs.declared.address.Place.the-variants.{Inside, Outside}
+use Rattle.central_state.specs.declared.apply.Step.{Step}
 use Rattle.central.specs.declared.turn.TurnEnd.{TurnEnd}
 use Rattle.central.specs.declared.turn.RunEnd.{RunEnd}
 

@@ -1,16 +1,16 @@
 // A turn, and up to n turns.
 ghost use mathlib.Core.Path.{_≡_};
 ghost use Prim.Native.Nat.{_+_, _^_, _<_, _≤_};
-ghost use Rattle.central.specs.State.{state};
+ghost use Rattle.central_state.specs.State.{state};
 ghost use Rattle.central.specs.Turn.{turned, wordRun, turnOf, ran, turnsOf};
-ghost use Rattle.central.specs.Widths.{Kept};
-use super::address::Bounds;
-use super::address::Place;
-use super::address::Relative;
-use super::address::convert;
-use super::address::index;
-use super::apply::Step;
+ghost use Rattle.central_state.specs.Widths.{Kept};
 use super::step::step;
+use central_state::apply::Step;
+use field_test::address::Bounds;
+use field_test::address::Place;
+use field_test::address::Relative;
+use field_test::address::convert;
+use field_test::address::index;
 use outcome::stop::CentralStop;
 
 // P after a turn, and the number of the stop, or 0.

@@ -1,3 +1,2 @@
 -- Consequences of the definitions. Assumes nothing.
 pub mod Width
-pub mod Device

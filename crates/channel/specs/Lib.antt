@@ -1,6 +1,4 @@
 -- The definitions that the contracts of `channel` cite. A reader has to believe these; `Laws` is proved from them.
 -- codes 70, 72 and 74 to 77 of document 01
 pub mod Codes
--- the device calls, and numbers 5, 13, 14 and 15
-pub mod Device
 pub mod Laws

@@ -1,4 +1,3 @@
-// A channel, what the peripheral codes do to it, and the device calls.
+// A channel, and what the peripheral codes do to it.
 pub mod codes;
-pub mod device;
 pub mod record;

@@ -6,7 +6,7 @@ use Rattle.outcome.specs.Numbers.{refusalNumber}
 use Rattle.outcome.specs.declared.refusal.Refusal.the-variants as Refusal
 use Rattle.outcome.specs.declared.refusal.Verdict.{Verdict}
 use Rattle.outcome.specs.declared.refusal.Verdict.the-variants as Call
-use Rattle.exchange.specs.declared.record.Central.{Central}
+use Rattle.central_record.specs.declared.record.Central.{Central}
 use Rattle.schedule.specs.Schedule.{Schedule, scheduleEnd}
 use Rattle.schedule.specs.Refusals.{scheduleVerdict}
 use Rattle.reading.specs.Reading.{Request, Reading, noLine, readable, unreadable, readingOf}

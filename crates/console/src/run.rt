@@ -6,7 +6,7 @@ ghost use Rattle.octal.specs.Write.{Wrote};
 ghost use Rattle.reading.specs.Reading.{request};
 ghost use Rattle.console.specs.Console.{zeroRecord, scheduleIn};
 ghost use Rattle.console.specs.Finish.{mostBytes, printedBy, MayPrint, Ran};
-use exchange::record::Central;
+use central_record::record::Central;
 use outcome::refusal::Verdict;
 use output::refused::write_refused;
 use output::stints::write_stints;

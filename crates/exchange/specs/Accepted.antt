@@ -4,10 +4,10 @@ use mathlib.Core.List.{List}
 use mathlib.Core.Path.{_≡_}
 use Prim.Native.Nat.{ℕ, _+_, _≤_}
 use lib.ListN.{length}
-use Rattle.exchange.specs.declared.record.Central.{Central}
-use Rattle.exchange.specs.Record.{recordFits, wordsFit}
-use Rattle.exchange.specs.Memory.{part}
-use Rattle.exchange.specs.Package.{hasStray}
+use Rattle.central_record.specs.declared.record.Central.{Central}
+use Rattle.central_record.specs.Record.{recordFits, wordsFit}
+use Rattle.exchange_package.specs.Memory.{part}
+use Rattle.exchange_package.specs.Package.{hasStray}
 use Rattle.exchange.specs.Jump.{recordAt}
 
 -- numbers 1, 3 and 5 do not refuse

@@ -7,9 +7,9 @@ use lib.ListN.{length}
 use Rattle.outcome.specs.declared.refusal.Refusal.the-variants as Refusal
 use Rattle.outcome.specs.declared.refusal.Verdict.{Verdict}
 use Rattle.outcome.specs.declared.refusal.Verdict.the-variants as Call
-use Rattle.exchange.specs.declared.record.Central.{Central}
-use Rattle.exchange.specs.Memory.{part, splice}
-use Rattle.exchange.specs.Package.{coded, decoded, hasStray}
+use Rattle.central_record.specs.declared.record.Central.{Central}
+use Rattle.exchange_package.specs.Memory.{part, splice}
+use Rattle.exchange_package.specs.Package.{coded, decoded, hasStray}
 
 -- the record of the package at an address
 abbrev pub recordAt : List ℕ → ℕ → Central

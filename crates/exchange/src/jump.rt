@@ -1,15 +1,15 @@
 // The exchange jump, and the tests of its package: numbers 9, 10 and 11.
-use super::package::has_stray;
-use super::package::load;
-use super::package::store;
-use super::record::Central;
+use central_record::record::Central;
+use exchange_package::package::has_stray;
+use exchange_package::package::load;
+use exchange_package::package::store;
 use outcome::refusal::Refusal;
 use outcome::refusal::Verdict;
 ghost use mathlib.Core.Path.{_≡_};
 ghost use Prim.Native.Nat.{_+_, _≤_};
 ghost use lib.Dec.{leb};
 ghost use lib.ListN.{length};
-ghost use Rattle.exchange.specs.Record.{FitsPackage};
+ghost use Rattle.central_record.specs.Record.{FitsPackage};
 ghost use Rattle.exchange.specs.Jump.{fieldInside, packageVerdict, exchangedTo, exchanged};
 
 // The sixteen words from this address up are in a memory of so many words. The address is any number, so 16 is not added to it.

@@ -1,4 +1,2 @@
-// The central processor's record, its exchange package, and the exchange jump.
+// The exchange jump.
 pub mod jump;
-pub mod package;
-pub mod record;

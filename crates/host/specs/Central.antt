@@ -6,12 +6,12 @@ use lib.Dec.{leb}
 use lib.ListN.{length}
 use lib.Seq.{sets}
 use Rattle.outcome.specs.Numbers.{verdictNumber}
-use Rattle.exchange.specs.Record.{hostVerdict}
+use Rattle.central_record.specs.Record.{hostVerdict}
 use Rattle.single.specs.Host.{Answered, turnAnswer, exchangeAnswer}
 use Rattle.single.specs.Program.{RunAnswered, runAnswer}
-use Rattle.flat.specs.Back.{kept, shortNumber}
-use Rattle.flat.specs.Layout.{centralNumbers}
-use Rattle.flat.specs.Lent.{centralLent}
+use Rattle.flat_answer.specs.Back.{kept, shortNumber}
+use Rattle.flat_record.specs.Layout.{centralNumbers}
+use Rattle.flat_record.specs.Lent.{centralLent}
 
 -- the number, the memory and the record
 pub record CentralLeft : Type 0 where

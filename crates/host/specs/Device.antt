@@ -7,13 +7,13 @@ use lib.ListN.{length}
 use Rattle.outcome.specs.declared.refusal.Refusal.the-variants as Refusal
 use Rattle.outcome.specs.declared.refusal.Verdict.{Verdict}
 use Rattle.outcome.specs.declared.refusal.Verdict.the-variants as Call
-use Rattle.channel.specs.Device.{putOf, takeOf, dropOf}
-use Rattle.channel.specs.declared.device.DeviceAnswer.{DeviceAnswer}
+use Rattle.device.specs.Device.{putOf, takeOf, dropOf}
+use Rattle.device.specs.declared.calls.DeviceAnswer.{DeviceAnswer}
 use Rattle.channel.specs.declared.record.Channel.{Channel}
-use Rattle.flat.specs.Back.{Back, backBy, shortNumber}
-use Rattle.flat.specs.Layout.{channelNumbers}
-use Rattle.flat.specs.Lent.{channelLent}
-use Rattle.flat.specs.Results.{TakeLeft, takeLeft, takeBy}
+use Rattle.flat_answer.specs.Back.{Back, backBy, shortNumber}
+use Rattle.flat_record.specs.Layout.{channelNumbers}
+use Rattle.flat_record.specs.Lent.{channelLent}
+use Rattle.flat_answer.specs.Results.{TakeLeft, takeLeft, takeBy}
 
 abbrev pub channelLeftBy : List ℕ → DeviceAnswer → Back
 channelLeftBy c a = backBy (a .verdict) (channelNumbers (a .channel)) c

@@ -6,13 +6,13 @@ use lib.Dec.{leb}
 use lib.ListN.{length}
 use lib.Seq.{sets}
 use Rattle.outcome.specs.Numbers.{verdictNumber}
-use Rattle.machine_record.specs.Verdict.{machineVerdict}
+use Rattle.machine_verdict.specs.Verdict.{machineVerdict}
 use Rattle.whole.specs.Call.{Left, turnAnswer, runAnswer}
 use Rattle.whole.specs.declared.call.TurnAnswer.{TurnAnswer}
 use Rattle.whole.specs.declared.call.RunAnswer.{RunAnswer}
-use Rattle.flat.specs.Back.{kept, shortNumber}
-use Rattle.flat.specs.Layout.{machineNumbers}
-use Rattle.flat.specs.Lent.{machineLent}
+use Rattle.flat_answer.specs.Back.{kept, shortNumber}
+use Rattle.flat_record.specs.Layout.{machineNumbers}
+use Rattle.flat_record.specs.Lent.{machineLent}
 
 -- the number, both memories and the record
 pub record MachineLeft : Type 0 where

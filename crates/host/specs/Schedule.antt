@@ -6,12 +6,13 @@ use lib.Dec.{leb}
 use lib.ListN.{length}
 use lib.Seq.{sets}
 use Rattle.outcome.specs.Numbers.{verdictNumber}
-use Rattle.exchange.specs.Record.{hostVerdict}
-use Rattle.shared.specs.Answer.{scheduleOf, Answered, scheduleAnswer}
-use Rattle.flat.specs.Back.{shortNumber}
-use Rattle.flat.specs.Layout.{rows}
-use Rattle.flat.specs.Lent.{centralLent}
-use Rattle.flat.specs.Results.{stintRow}
+use Rattle.central_record.specs.Record.{hostVerdict}
+use Rattle.shared.specs.Answer.{Answered, scheduleAnswer}
+use Rattle.schedule.specs.Schedule.{scheduleOf}
+use Rattle.flat_answer.specs.Back.{shortNumber}
+use Rattle.flat_record.specs.Layout.{rows}
+use Rattle.flat_record.specs.Lent.{centralLent}
+use Rattle.flat_answer.specs.Results.{stintRow}
 use Rattle.host.specs.Central.{ResultLeft, resultLeft}
 
 -- those of n stints from the first entry on; after a refusal "counts are 0"

@@ -1,10 +1,10 @@
 // The calls on the central processor: one turn, one exchange jump, the run of one program.
 ghost use mathlib.Core.Path.{_≡_};
 ghost use Rattle.host.specs.Central.{centralLeft, centralTurn, centralExchange, resultLeft, programRun};
-use exchange::record::host_verdict;
-use flat::keep::keep_central;
-use flat::keep::short_number;
-use flat::read::central_lent;
+use central_record::record::host_verdict;
+use flat_answer::keep::keep_central;
+use flat_answer::keep::short_number;
+use flat_record::read::central_lent;
 use single::host::central_turn;
 use single::host::exchange;
 use single::program::run_program;

@@ -1,13 +1,13 @@
 // The device calls, on the four numbers of a channel.
 ghost use mathlib.Core.Path.{_≡_};
-ghost use Rattle.flat.specs.Back.{back};
-ghost use Rattle.flat.specs.Results.{takeLeft};
+ghost use Rattle.flat_answer.specs.Back.{back};
+ghost use Rattle.flat_answer.specs.Results.{takeLeft};
 ghost use Rattle.host.specs.Device.{channelVerdict, channelPut, channelTake, channelDrop};
 use channel::record::Channel;
-use flat::keep::keep_channel;
-use flat::keep::short_number;
-use flat::read::channel_lent;
-use flat::results::keep_taken;
+use flat_answer::keep::keep_channel;
+use flat_answer::keep::short_number;
+use flat_answer::results::keep_taken;
+use flat_record::read::channel_lent;
 use outcome::refusal::Refusal;
 use outcome::refusal::Verdict;
 

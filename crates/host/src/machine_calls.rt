@@ -1,10 +1,10 @@
 // The calls on the whole machine: a turn of one peripheral processor, and a run of rounds.
 ghost use mathlib.Core.Path.{_≡_};
 ghost use Rattle.host.specs.Machine.{machineLeft, processorTurn, runLeft, machineRun};
-use flat::keep::keep_machine;
-use flat::keep::short_number;
-use flat::read::machine_lent;
-use machine_record::verdict::machine_verdict;
+use flat_answer::keep::keep_machine;
+use flat_answer::keep::short_number;
+use flat_record::read::machine_lent;
+use machine_verdict::verdict::machine_verdict;
 use whole::call::peripheral_turn;
 use whole::call::run;
 

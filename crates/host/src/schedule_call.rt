@@ -2,10 +2,10 @@
 ghost use mathlib.Core.Path.{_≡_};
 ghost use Rattle.host.specs.Central.{resultLeft};
 ghost use Rattle.host.specs.Schedule.{scheduleRun};
-use exchange::record::host_verdict;
-use flat::keep::short_number;
-use flat::read::central_lent;
-use flat::results::store_stints;
+use central_record::record::host_verdict;
+use flat_answer::keep::short_number;
+use flat_answer::results::store_stints;
+use flat_record::read::central_lent;
 use shared::call::schedule;
 
 // Runs the jobs, given by the addresses of their packages, in stints, given by the job and the turns of each. The result is of each stint

@@ -2,7 +2,7 @@
 use mathlib.Core.Bool.{Bool, not, _||_, _&&_, cond}
 use Prim.Native.Nat.{ℕ}
 use lib.Dec.{eqb, leb, ltb}
-use Rattle.word.specs.Fields.{parcel, digit, code, jk, constantK}
+use Rattle.word_fields.specs.Fields.{parcel, digit, code, jk, constantK}
 use Rattle.instruction.specs.declared.instruction.Instruction.{Instruction}
 
 -- K of an instruction that begins at this place; at the last place, 3, there is none

@@ -1,4 +1,3 @@
 -- Consequences of the definitions. Assumes nothing.
 pub mod Codes
-pub mod Effects
 pub mod Widths

@@ -2,6 +2,5 @@
 -- functions ask for; `Laws` is proved from them.
 pub mod Registers
 pub mod Instruction
-pub mod Effects
 pub mod Widths
 pub mod Laws

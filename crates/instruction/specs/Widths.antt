@@ -3,8 +3,6 @@ use mathlib.Core.List.{List}
 use mathlib.Core.Path.{_≡_}
 use Prim.Native.Nat.{ℕ, _^_, _<_}
 use lib.ListN.{getD, length}
-use Rattle.instruction.specs.declared.effect.Effect.{Effect}
-use Rattle.instruction.specs.declared.effect.Effect.the-variants.{Pass, Stop, Jump, ReturnJump, SetA, SetB, SetX, SetXB}
 use Rattle.instruction.specs.declared.instruction.Instruction.{Instruction}
 
 -- the 24 registers: "A and B registers ... have 18 bits, X registers 60. B0 is zero"
@@ -22,17 +20,6 @@ pub record Fit (q : Instruction) : Type 0 where
   pub k : q .k < 8
   pub jk : q .jk < 64
   pub constant : q .constant < 2 ^ 18
-
--- an effect names registers that are there, and values of their widths
-abbrev pub Sound : Effect → Type 0
-Sound Pass = Unit {0}
-Sound (Stop c) = Unit {0}
-Sound (Jump p) = p < 2 ^ 18
-Sound (ReturnJump k w) = (k < 2 ^ 18) × (w < 2 ^ 60)
-Sound (SetA i v) = (i < 8) × (v < 2 ^ 18)
-Sound (SetB i v) = (i < 8) × (v < 2 ^ 18)
-Sound (SetX i v) = (i < 8) × (v < 2 ^ 60)
-Sound (SetXB i v j e) = ((i < 8) × (v < 2 ^ 60)) × ((j < 8) × (e < 2 ^ 18))
 
 -- v is w, a value of 18 bits; of 60 bits
 pub record Short (v w : ℕ) : Type 0 where

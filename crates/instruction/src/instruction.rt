@@ -2,7 +2,7 @@
 ghost use mathlib.Core.Path.{_≡_};
 ghost use Prim.Native.Nat.{_<_};
 ghost use Rattle.instruction.specs.Instruction.{constantAt, decoded, isLong, isLeftOut, isFit, parcelsOf};
-use word::fields;
+use word_fields::fields;
 
 pub struct Instruction {
     // The digits f and m.

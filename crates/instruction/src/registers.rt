@@ -4,7 +4,7 @@ ghost use Prim.Native.Nat.{_<_};
 ghost use Rattle.instruction.specs.Registers.{aOf, bOf, xOf, setB, setX};
 ghost use Rattle.instruction.specs.Widths.{Wide, Short, Long};
 
-pub(crate) fn a_of(r: &[u64; 24], i: usize) -> u64
+pub fn a_of(r: &[u64; 24], i: usize) -> u64
     requires { ⌜ i < 8 ⌝ }
     requires { ⌜ Wide (now r) ⌝ }
     ensures { λ v. ⌜ Short v (aOf (now (r .entry)) i) ⌝ }
@@ -12,7 +12,7 @@ pub(crate) fn a_of(r: &[u64; 24], i: usize) -> u64
     r[i]
 }
 
-pub(crate) fn b_of(r: &[u64; 24], i: usize) -> u64
+pub fn b_of(r: &[u64; 24], i: usize) -> u64
     requires { ⌜ i < 8 ⌝ }
     requires { ⌜ Wide (now r) ⌝ }
     ensures { λ v. ⌜ Short v (bOf (now (r .entry)) i) ⌝ }
@@ -20,7 +20,7 @@ pub(crate) fn b_of(r: &[u64; 24], i: usize) -> u64
     r[8 + i]
 }
 
-pub(crate) fn x_of(r: &[u64; 24], i: usize) -> u64
+pub fn x_of(r: &[u64; 24], i: usize) -> u64
     requires { ⌜ i < 8 ⌝ }
     requires { ⌜ Wide (now r) ⌝ }
     ensures { λ v. ⌜ Long v (xOf (now (r .entry)) i) ⌝ }

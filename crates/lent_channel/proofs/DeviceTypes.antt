@@ -4,9 +4,9 @@ use denote.Struct.Laws as LL
 use denote.Enum.Laws as EL
 use Rattle.outcome.proofs.refusal.Verdict as P
 use Rattle.outcome.proofs.refusal.Verdict.Laws as P′
-use Rattle.channel.proofs.device.DeviceAnswer as S
-use Rattle.channel.proofs.device.DeviceAnswer.Laws as S′
-use Rattle.channel.proofs.DeviceTypes.{types}
+use Rattle.device.proofs.calls.DeviceAnswer as S
+use Rattle.device.proofs.calls.DeviceAnswer.Laws as S′
+use Rattle.device.proofs.DeviceTypes.{types}
 use Rattle.lent_channel.proofs.Loan.{Loan}
 
 abbrev pub loan : Loan types

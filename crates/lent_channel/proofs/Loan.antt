@@ -18,7 +18,7 @@ use denote.Laws.{Is, Tells, Makes}
 use denote.Memory.{mem, cellAt, partOf}
 use denote.Steps.{only, owned}
 use denote.Struct.Laws as LL
-use Rattle.channel.proofs.Thin.{Thin, HasType, t-row, t-type, t-val, t-vals, s-val}
+use Rattle.device.proofs.Thin.{Thin, HasType, t-row, t-type, t-val, t-vals, s-val}
 
 pub record Loan (K : Thin) : Type 2 where
   -- a record by value is not changed by the function that it is passed to

@@ -2,11 +2,11 @@
 use mathlib.Core.Path.{refl}
 use denote.Struct.Laws as LL
 use denote.Enum.Laws as EL
-use Rattle.channel.proofs.device.Taken as P
-use Rattle.channel.proofs.device.Taken.Laws as P′
-use Rattle.channel.proofs.device.TakeAnswer as S
-use Rattle.channel.proofs.device.TakeAnswer.Laws as S′
-use Rattle.channel.proofs.TakeTypes.{types}
+use Rattle.device.proofs.calls.Taken as P
+use Rattle.device.proofs.calls.Taken.Laws as P′
+use Rattle.device.proofs.calls.TakeAnswer as S
+use Rattle.device.proofs.calls.TakeAnswer.Laws as S′
+use Rattle.device.proofs.TakeTypes.{types}
 use Rattle.lent_channel.proofs.Loan.{Loan}
 
 abbrev pub loan : Loan types

@@ -1,16 +1,16 @@
 // The device calls by value, over those on a channel that is lent: the calls that a host makes are the ones that run here.
 ghost use mathlib.Core.Path.{_≡_};
-ghost use Rattle.channel.specs.Device.{putOf, takeOf, dropOf};
-use channel::device;
-use channel::device::DeviceAnswer;
-use channel::device::TakeAnswer;
+ghost use Rattle.device.specs.Device.{putOf, takeOf, dropOf};
 use channel::record::Channel;
+use device::calls;
+use device::calls::DeviceAnswer;
+use device::calls::TakeAnswer;
 
 pub fn put(c: Channel, word: u64) -> DeviceAnswer
     ensures { λ r. ⌜ r ≡ putOf c word ⌝ }
 {
     let mut d = c;
-    let v = device::put(&mut d, word);
+    let v = calls::put(&mut d, word);
     DeviceAnswer {
         verdict: v,
         channel: d,
@@ -21,7 +21,7 @@ pub fn take(c: Channel) -> TakeAnswer
     ensures { λ r. ⌜ r ≡ takeOf c ⌝ }
 {
     let mut d = c;
-    let v = device::take(&mut d);
+    let v = calls::take(&mut d);
     TakeAnswer {
         verdict: v,
         channel: d,
@@ -32,7 +32,7 @@ pub fn drop(c: Channel) -> DeviceAnswer
     ensures { λ r. ⌜ r ≡ dropOf c ⌝ }
 {
     let mut d = c;
-    let v = device::drop(&mut d);
+    let v = calls::drop(&mut d);
     DeviceAnswer {
         verdict: v,
         channel: d,

@@ -2,9 +2,9 @@
 use mathlib.Core.List.{List}
 use Prim.Native.Nat.{ℕ, _+_}
 use lib.ListN.{set}
-use Rattle.word.specs.Fields.{part}
+use Rattle.word_fields.specs.Fields.{part}
 use Rattle.exchange.specs.Jump.{Exchanged, exchanged}
-use Rattle.exchange.specs.declared.record.Central.{Central}
+use Rattle.central_record.specs.declared.record.Central.{Central}
 use Rattle.machine.specs.declared.effect.Effect.{Effect}
 use Rattle.machine.specs.declared.effect.Effect.the-variants.{Advance, Store, ReadCentral, WriteCentral, SetChannel, Exchange, Wait, Stop}
 use Rattle.machine.specs.Numbers.{advanced, stopped, withChannel, centralOf, withCentral}

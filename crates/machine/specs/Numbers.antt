@@ -9,7 +9,7 @@ use lib.ListN.{getD, set}
 use Rattle.outcome.specs.Numbers.{peripheralStopNumber}
 use Rattle.outcome.specs.declared.stop.PeripheralStop.{PeripheralStop}
 use Rattle.channel.specs.declared.record.Channel.{Channel}
-use Rattle.exchange.specs.declared.record.Central.{Central}
+use Rattle.central_record.specs.declared.record.Central.{Central}
 use Rattle.machine.specs.declared.numbers.Processor.{Processor}
 
 -- the record of processor n

@@ -2,7 +2,7 @@
 ghost use mathlib.Core.Path.{_≡_};
 ghost use Prim.Native.Nat.{_<_, _≤_, _+_};
 ghost use lib.ListN.{length};
-ghost use Rattle.exchange.specs.Record.{FitsPackage};
+ghost use Rattle.central_record.specs.Record.{FitsPackage};
 ghost use Rattle.machine.specs.Numbers.{centralOf};
 ghost use Rattle.machine.specs.Machine.{machine, centralSide};
 ghost use Rattle.machine.specs.Apply.{withParts, exchangedAt, applied};
@@ -14,7 +14,7 @@ use super::numbers::set_channel;
 use super::numbers::set_controls;
 use super::numbers::stop;
 use exchange::jump::exchange_jump;
-use word::fields::part;
+use word_fields::fields::part;
 
 // The five parts of a word, top part first, from this address up.
 fn set_parts(m: &mut [u16], at: usize, w: u64)

@@ -2,8 +2,8 @@
 ghost use mathlib.Core.Path.{_≡_};
 ghost use Prim.Native.Nat.{_<_};
 ghost use Rattle.machine.specs.Numbers.{processorOf, advanced, stopped, flag, channelOf, withChannel, centralOf, centralP, clockOf, withControls};
+use central_record::record::Central;
 use channel::record::Channel;
-use exchange::record::Central;
 use outcome::stop::PeripheralStop;
 
 // The record of a peripheral processor.

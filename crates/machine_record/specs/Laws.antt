@@ -4,6 +4,3 @@ pub mod Entries
 pub mod Record
 -- the record as 84 numbers and back is the record
 pub mod Numbers
--- what an accepted call lends, and that what is handed back may be lent again
-pub mod Verdict
-pub mod Example

@@ -1,8 +1,6 @@
 -- The definitions that the contracts of `machine_record` cite. A reader has to believe these; `Laws` is proved from them.
 -- number 5
 pub mod Record
--- numbers 1 to 5 and 8
-pub mod Verdict
 -- the record as 84 numbers, and back
 pub mod Numbers
 pub mod Laws

@@ -5,7 +5,7 @@ use Prim.Native.Nat.{ℕ, zero, suc, _+_, _-_}
 use lib.Dec.{ltb}
 use lib.ListN.{getD}
 use Rattle.channel.specs.declared.record.Channel.{Channel}
-use Rattle.exchange.specs.Indexed.{tabulate}
+use Rattle.central_record.specs.Indexed.{tabulate}
 use Rattle.machine.specs.Machine.{Machine, machine}
 use Rattle.machine.specs.Numbers.{processorOf, flag, channelOf, centralOf, clockOf}
 use Rattle.machine.specs.declared.numbers.Processor.{Processor}

@@ -7,8 +7,8 @@ use lib.Dec.{ltb}
 use lib.ListN.{getD}
 use Rattle.channel.specs.Codes.{disconnected}
 use Rattle.channel.specs.declared.record.Channel.{Channel}
-use Rattle.exchange.specs.Indexed.{allBelow}
-use Rattle.exchange.specs.Record.{recordFits}
+use Rattle.central_record.specs.Indexed.{allBelow}
+use Rattle.central_record.specs.Record.{recordFits}
 use Rattle.machine.specs.Numbers.{stopListed}
 use Rattle.machine.specs.declared.numbers.Processor.{Processor}
 use Rattle.machine_record.specs.declared.record.MachineRecord.{MachineRecord}

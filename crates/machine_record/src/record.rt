@@ -1,6 +1,6 @@
 // The machine's record.
+use central_record::record::Central;
 use channel::record::Channel;
-use exchange::record::Central;
 use machine::numbers::Processor;
 
 // All registers and channels of the machine. There are ten processor records, however many processors the peripheral memory has.

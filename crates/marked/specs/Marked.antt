@@ -12,13 +12,13 @@ use Rattle.word.specs.Sums.{complement, sum}
 use Rattle.shift.specs.Shifts.{rotateLeft, mask, shiftRightSigned, shiftA, countOnes}
 use Rattle.shift.specs.Floating.{magnitude, coefficientOf, exponentFrom, exponentOf}
 use Rattle.instruction.specs.Instruction.{constantAt, decoded, isLong, isLeftOut, isFit, parcelsOf}
-use Rattle.instruction.specs.Effects.{branchOf, effectOf}
-use Rattle.central.specs.State.{State, state}
-use Rattle.central.specs.Address.{bounds, placeOf}
-use Rattle.central.specs.Apply.{returnJumped, applied}
+use Rattle.central_effect.specs.Effects.{branchOf, effectOf}
+use Rattle.central_state.specs.State.{State, state}
+use Rattle.field_test.specs.Address.{bounds, placeOf}
+use Rattle.central_state.specs.Apply.{returnJumped, applied}
 use Rattle.central.specs.Turn.{ranAt, turned, turnEnd, parcelsRun, wordRun, turnOf}
 use Rattle.central.specs.Laws.Place.{place-back}
-use Rattle.central.specs.declared.address.Bounds.{Bounds}
+use Rattle.field_test.specs.declared.address.Bounds.{Bounds}
 use Rattle.machine.specs.Numbers.{processorOf, advanced}
 use Rattle.machine.specs.Machine.{Machine, machine}
 use Rattle.machine.specs.Apply as Apply

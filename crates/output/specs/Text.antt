@@ -1,9 +1,10 @@
 -- The lines of the console's answer, as bytes. "Words have 20 digits, other values no leading zeros." Assumes nothing.
 use mathlib.Core.Bool.{cond}
 use mathlib.Core.List.{List, [], _∷_, _++_}
-use Prim.Native.Nat.{ℕ, suc, _+_, _/_, _%_}
-use lib.Dec.{eqb, ltb}
+use Prim.Native.Nat.{ℕ, suc}
+use lib.Dec.{eqb}
 use Rattle.octal.specs.Write.{digits, octal}
+use Rattle.output_line.specs.Line.{decimal, line}
 
 -- the bytes of stint=, job=, turns=, stop= and refused=
 abbrev pub stintIs : List ℕ
@@ -20,14 +21,6 @@ stopIs = 115 ∷ 116 ∷ 111 ∷ 112 ∷ 61 ∷ []
 
 abbrev pub refusedIs : List ℕ
 refusedIs = 114 ∷ 101 ∷ 102 ∷ 117 ∷ 115 ∷ 101 ∷ 100 ∷ 61 ∷ []
-
--- "the numbers of refusals and stops" are decimal: n without leading zeros, for n below 100
-unfoldable pub decimal : ℕ → List ℕ
-decimal n = cond (ltb n 10) ((48 + n) ∷ []) ((48 + n / 10 % 10) ∷ (48 + n % 10) ∷ [])
-
--- a line: a name with its equals sign, a value, the line feed
-abbrev pub line : List ℕ → List ℕ → List ℕ
-line name value = name ++ (value ++ (10 ∷ []))
 
 -- "four lines a stint (index, job, turns made, stop or 0)"
 unfoldable pub stintLines : ℕ → ℕ → ℕ → ℕ → List ℕ

@@ -1,5 +1,4 @@
 // The lines of the console's answer, written into a lent buffer.
-mod pieces;
 pub mod refused;
 pub mod stints;
 pub mod words;

@@ -3,7 +3,7 @@ ghost use Prim.Native.Nat.{_+_, _≤_};
 ghost use lib.ListN.{length};
 ghost use Rattle.octal.specs.Write.{Wrote};
 ghost use Rattle.output.specs.Text.{refusedLine};
-use super::pieces::write_decimal_line;
+use output_line::pieces::write_decimal_line;
 
 pub fn write_refused(out: &mut [u8], at: usize, number: u64) -> usize
     requires { ⌜ at + 11 ≤ length (now out) ⌝ }

@@ -3,8 +3,8 @@ ghost use Prim.Native.Nat.{_+_, _*_, _≤_};
 ghost use lib.ListN.{length};
 ghost use Rattle.octal.specs.Write.{Wrote};
 ghost use Rattle.output.specs.Text.{stintLines, stintsLines};
-use super::pieces::write_decimal_line;
-use super::pieces::write_octal_line;
+use output_line::pieces::write_decimal_line;
+use output_line::pieces::write_octal_line;
 
 // The four lines of one stint.
 fn write_stint(out: &mut [u8], at: usize, index: u64, job: u64, turns: u64, stop: u64) -> usize

@@ -3,9 +3,9 @@ ghost use Prim.Native.Nat.{_+_, _*_, _≤_, _<_};
 ghost use lib.ListN.{length};
 ghost use Rattle.octal.specs.Write.{Wrote};
 ghost use Rattle.output.specs.Text.{wordLine, wordLines};
-use super::pieces::write_text;
 use octal::write::write_digits;
 use octal::write::write_octal;
+use output_line::pieces::write_text;
 
 // The line of a word that is not zero.
 fn write_nonzero(out: &mut [u8], at: usize, address: u64, word: u64) -> usize

@@ -1,6 +1,5 @@
 -- Consequences of the definitions. Assumes nothing.
 -- every effect names places that are there, and values of their widths
-pub mod Channels
 pub mod Effects
 pub mod Turn
 pub mod Frame

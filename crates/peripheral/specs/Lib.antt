@@ -1,7 +1,4 @@
--- The definitions that the contracts of `peripheral` cite, over those of `processor`. A reader has to believe these; `Laws` is proved from them.
--- 26, 60, 62
-pub mod Central
--- 64 to 67, 70, 72, 74 to 77
-pub mod Channels
+-- The definitions that the contracts of `peripheral` cite, over those of `processor` and `peripheral_io`. A reader has to believe these;
+-- `Laws` is proved from them.
 pub mod Turn
 pub mod Laws

@@ -16,8 +16,8 @@ use Rattle.processor.specs.Addresses.{word, onward, indexed}
 use Rattle.processor.specs.Jumps.{pass, jumpOf}
 use Rattle.processor.specs.Constants.{shortOf, longOf}
 use Rattle.processor.specs.Memory.{operationOf}
-use Rattle.peripheral.specs.Central.{exchangeOf, readCentral, writeCentral}
-use Rattle.peripheral.specs.Channels.{channelJump, inputFrom, outputTo, changeOn}
+use Rattle.peripheral_io.specs.Central.{exchangeOf, readCentral, writeCentral}
+use Rattle.peripheral_io.specs.Channels.{channelJump, inputFrom, outputTo, changeOn}
 
 -- "codes left out stop with 36, tested before the others": 61, 63, 71 and 73, whatever A and d
 abbrev pub leftOut : Effect

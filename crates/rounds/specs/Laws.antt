@@ -1,6 +1,5 @@
 -- Consequences of the definitions. Assumes nothing.
 -- what turns and rounds keep, and the loops over them
-pub mod Processors
 pub mod Central
 pub mod Rounds
 pub mod Frame

@@ -4,30 +4,12 @@ use mathlib.Core.List.{List}
 use Prim.Native.Nat.{ℕ, zero, suc, _+_, _*_, _%_}
 use lib.Dec.{eqb}
 use lib.ListN.{set}
-use Rattle.exchange.specs.Indexed.{allBelow}
-use Rattle.exchange.specs.Memory.{part, splice}
+use Rattle.central_record.specs.Indexed.{allBelow}
 use Rattle.single.specs.Host as Host
 use Rattle.machine.specs.Numbers.{processorOf, centralOf, centralStop, clockOf}
 use Rattle.machine.specs.Apply.{putBack}
 use Rattle.machine.specs.Machine.{Machine, machine, CentralSide}
-use Rattle.peripheral.specs.Turn.{turnOf}
-
--- the machine with the 4,096 words of processor n alone
-abbrev pub lentTo : Machine → ℕ → Machine
-lentTo h n = machine (part (h .peripheral) (n * 4096) 4096) (h .central) (h .registers) (h .numbers)
-
--- the machine with the words of processor n, and all else, as in o
-abbrev pub returned : Machine → ℕ → Machine → Machine
-returned h n o = machine (splice (h .peripheral) (n * 4096) 4096 (o .peripheral)) (o .central) (o .registers) (o .numbers)
-
--- a turn of processor n
-unfoldable pub processorTurned : Machine → ℕ → Machine
-processorTurned h n = returned h n (turnOf (lentTo h n) n)
-
--- "peripheral processors in rising number": k of them, from n on
-unfoldable pub processorsTurned : ℕ → ℕ → Machine → Machine
-processorsTurned zero n h = h
-processorsTurned (suc k) n h = processorsTurned k (n + 1) (processorTurned h n)
+use Rattle.processors.specs.Processors.{processorsTurned}
 
 abbrev pub afterCentralTurn : List ℕ → Host.Machine → CentralSide
 afterCentralTurn s o = putBack s (o .memory) (o .central)

@@ -7,11 +7,11 @@ ghost use Rattle.machine.specs.Numbers.{centralOf, clockOf};
 ghost use Rattle.machine.specs.Machine.{machine, centralSide};
 ghost use Rattle.machine.specs.Widths.{Kept};
 ghost use Rattle.rounds.specs.Rounds.{centralTurnOf, ticked, roundOf, allStopped, ran, roundsOf};
-use super::processors::processors_turn;
-use central::address::Bounds;
 use central::turn::turns;
+use field_test::address::Bounds;
 use machine::numbers::processor_of;
 use machine::numbers::set_controls;
+use processors::processors::processors_turn;
 
 // One turn of the central processor, which is lent its field alone. A stopped processor's turn changes nothing.
 fn central_turn(c: &mut [u64], x: &mut [u64; 24], s: &mut [u64; 84])

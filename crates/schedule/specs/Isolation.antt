@@ -10,8 +10,8 @@ use lib.Dec.{eqb}
 use lib.ListN.{length, getD}
 use Rattle.outcome.specs.declared.refusal.Verdict.the-variants as Call
 use Rattle.exchange.specs.Jump.{recordAt}
-use Rattle.exchange.specs.Memory.{part}
-use Rattle.exchange.specs.declared.record.Central.{Central}
+use Rattle.exchange_package.specs.Memory.{part}
+use Rattle.central_record.specs.declared.record.Central.{Central}
 use Rattle.schedule.specs.Schedule.{Schedule, scheduleEnd}
 use Rattle.schedule.specs.Refusals.{scheduleVerdict}
 

@@ -2,13 +2,13 @@
 use mathlib.Core.List.{List, [], _∷_}
 use Prim.Native.Nat.{ℕ}
 use lib.ListN.{getD}
-use Rattle.central.specs.State.{state}
+use Rattle.central_state.specs.State.{state}
 use Rattle.central.specs.Turn.{Run}
 use Rattle.exchange.specs.Jump.{recordAt}
-use Rattle.exchange.specs.Memory.{part}
-use Rattle.exchange.specs.Package.{coded, decoded}
-use Rattle.single.specs.Field.{recordAfter, turnsOn}
-use Rattle.single.specs.Stint.{StintMemory}
+use Rattle.exchange_package.specs.Memory.{part}
+use Rattle.exchange_package.specs.Package.{coded, decoded}
+use Rattle.stint.specs.Field.{recordAfter, turnsOn}
+use Rattle.stint.specs.Stint.{StintMemory}
 use Rattle.schedule.specs.Isolation.{ofJob}
 use Rattle.schedule.specs.Schedule.{Schedule, ScheduleEnd, scheduleEnd}
 

@@ -5,7 +5,7 @@ use mathlib.Core.Path.{_≡_}
 use Prim.Native.Nat.{ℕ, _<_}
 use lib.ListN.{length, getD}
 use Rattle.exchange.specs.Accepted.{HostAccepted, PackageAccepted}
-use Rattle.exchange.specs.declared.record.Central.{Central}
+use Rattle.central_record.specs.declared.record.Central.{Central}
 use Rattle.schedule.specs.Refusals.{packageMeetsField, packagesMeet, fieldsMeet}
 
 -- memory, record and jobs that may be scheduled: the host lends what it may, each package is accepted, and no two packages or fields share a word

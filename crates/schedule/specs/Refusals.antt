@@ -7,11 +7,11 @@ use lib.ListN.{length, getD}
 use Rattle.outcome.specs.declared.refusal.Refusal.the-variants as Refusal
 use Rattle.outcome.specs.declared.refusal.Verdict.the-variants as Call
 use Rattle.outcome.specs.declared.refusal.Verdict.{Verdict}
-use Rattle.exchange.specs.Indexed.{allBelow}
+use Rattle.central_record.specs.Indexed.{allBelow}
 use Rattle.exchange.specs.Jump.{recordAt, packageInside, packageClean, fieldInside}
-use Rattle.exchange.specs.Record.{below, hostVerdict}
+use Rattle.central_record.specs.Record.{below, hostVerdict}
 use Rattle.single.specs.Order.{orElse}
-use Rattle.single.specs.Overlap.{sharesWord}
+use Rattle.stint.specs.Overlap.{sharesWord}
 use Rattle.single.specs.Program.{mostTurns}
 use Rattle.schedule.specs.Schedule.{Schedule}
 

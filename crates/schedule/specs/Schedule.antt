@@ -3,8 +3,8 @@
 use mathlib.Core.List.{List, [], _∷_}
 use Prim.Native.Nat.{ℕ}
 use lib.ListN.{getD}
-use Rattle.exchange.specs.declared.record.Central.{Central}
-use Rattle.single.specs.Stint.{StintMemory, stintOf}
+use Rattle.central_record.specs.declared.record.Central.{Central}
+use Rattle.stint.specs.Stint.{StintMemory, stintOf}
 
 -- "A schedule is given a memory, a central record, its jobs as a list of package addresses, and its stints as two lists, the job and the turns of each"
 pub record Schedule : Type 0 where
@@ -13,6 +13,9 @@ pub record Schedule : Type 0 where
   pub jobs : List ℕ
   pub stintJobs : List ℕ
   pub stintTurns : List ℕ
+
+abbrev pub scheduleOf : List ℕ → Central → List ℕ → List ℕ → List ℕ → Schedule
+scheduleOf m c jobs js ts = record { memory = m; central = c; jobs = jobs; stintJobs = js; stintTurns = ts }
 
 -- the memory and the record handed back, and of each stint the turns made and the stop's number, or 0
 pub record ScheduleEnd : Type 0 where

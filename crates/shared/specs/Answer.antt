@@ -5,7 +5,7 @@ use Prim.Native.Nat.{ℕ, _-_, _≤_}
 use lib.ListN.{length, replicate}
 use Rattle.outcome.specs.declared.refusal.Verdict.the-variants as Call
 use Rattle.outcome.specs.declared.refusal.Verdict.{Verdict}
-use Rattle.exchange.specs.declared.record.Central.{Central}
+use Rattle.central_record.specs.declared.record.Central.{Central}
 use Rattle.schedule.specs.Refusals.{mostStints, scheduleVerdict}
 use Rattle.schedule.specs.Ready.{Ready, Listed}
 use Rattle.schedule.specs.Schedule.{Schedule, ScheduleEnd, scheduleEnd}
@@ -33,9 +33,6 @@ padded xs = xs ++ replicate (mostStints - length xs) 0
 abbrev pub inArrays : ScheduleEnd → StintsMemory
 inArrays o =
     stintsTo (o .memory) (record { central = o .central; turns = padded (o .turns); stops = padded (o .stops) })
-
-abbrev pub scheduleOf : List ℕ → Central → List ℕ → List ℕ → List ℕ → Schedule
-scheduleOf m c jobs js ts = record { memory = m; central = c; jobs = jobs; stintJobs = js; stintTurns = ts }
 
 -- the memory, and the verdict with the record and the results of the stints
 pub record Answered : Type 0 where

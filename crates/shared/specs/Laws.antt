@@ -1,5 +1,4 @@
 -- Consequences of the definitions. Assumes nothing.
-pub mod Owners
 pub mod Stints
 pub mod Answer
 pub mod Isolation

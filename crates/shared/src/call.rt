@@ -1,10 +1,11 @@
 // The call that runs a schedule.
 ghost use mathlib.Core.Path.{_≡_};
-ghost use Rattle.shared.specs.Answer.{scheduleOf, answerTo, scheduleAnswer};
+ghost use Rattle.shared.specs.Answer.{answerTo, scheduleAnswer};
+ghost use Rattle.schedule.specs.Schedule.{scheduleOf};
 use super::stints::run_stints;
-use super::verdict::schedule_verdict;
-use exchange::record::Central;
+use central_record::record::Central;
 use outcome::refusal::Verdict;
+use schedule_verdict::verdict::schedule_verdict;
 
 // The verdict, the record, and of each stint the turns made and the stop's number, or 0. Entries past the last stint are 0.
 pub struct ScheduleAnswer {

@@ -1,6 +1,3 @@
 // SHARED: up to sixteen programs in one memory, run by a schedule of stints.
 pub mod call;
-pub mod lists;
-pub mod owners;
 pub mod stints;
-pub mod verdict;

@@ -4,8 +4,8 @@ ghost use Prim.Native.Nat.{_<_};
 ghost use lib.ListN.{length, getD};
 ghost use Rattle.schedule.specs.Schedule.{stintsOf};
 ghost use Rattle.shared.specs.Answer.{MayRun, stintsTo, inArrays};
-use exchange::record::Central;
-use single::stint::stint;
+use central_record::record::Central;
+use stint::stint::stint;
 
 // The record after the stints, and of each stint the turns made and the stop's number, or 0. Entries past the last stint are 0.
 pub struct StintsEnd {

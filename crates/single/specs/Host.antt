@@ -5,14 +5,14 @@ use Prim.Native.Nat.{ℕ}
 use lib.Dec.{eqb}
 use Rattle.outcome.specs.declared.refusal.Verdict.the-variants as Call
 use Rattle.outcome.specs.declared.refusal.Verdict.{Verdict}
-use Rattle.central.specs.State.{state}
+use Rattle.central_state.specs.State.{state}
 use Rattle.central.specs.Turn.{Turn, turnOf}
 use Rattle.exchange.specs.Jump.{packageVerdict, exchanged}
-use Rattle.exchange.specs.Memory.{part, splice}
-use Rattle.exchange.specs.Record.{hostVerdict}
-use Rattle.exchange.specs.declared.record.Central.{Central}
+use Rattle.exchange_package.specs.Memory.{part, splice}
+use Rattle.central_record.specs.Record.{hostVerdict}
+use Rattle.central_record.specs.declared.record.Central.{Central}
 use Rattle.single.specs.Order.{orElse}
-use Rattle.single.specs.Field.{boundsOf}
+use Rattle.stint.specs.Field.{boundsOf}
 use Rattle.single.specs.declared.host.Answer.{Answer}
 
 -- what the host lends

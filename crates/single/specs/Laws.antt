@@ -1,6 +1,3 @@
 -- Consequences of the definitions. Assumes nothing.
-pub mod Field
-pub mod Overlap
-pub mod Stint
 pub mod Host
 pub mod Program

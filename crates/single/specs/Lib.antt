@@ -1,10 +1,6 @@
 -- The definitions that the contracts of `single` cite. A reader has to believe these; `Laws` is proved from them.
 -- "Lowest number first"
 pub mod Order
--- turns on a field, and stints
-pub mod Field
-pub mod Overlap
-pub mod Stint
 -- central_turn and exchange
 pub mod Host
 -- run_program

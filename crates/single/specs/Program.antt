@@ -7,11 +7,11 @@ use Rattle.outcome.specs.declared.refusal.Refusal.the-variants as Refusal
 use Rattle.outcome.specs.declared.refusal.Verdict.the-variants as Call
 use Rattle.outcome.specs.declared.refusal.Verdict.{Verdict}
 use Rattle.exchange.specs.Jump.{recordAt, packageVerdict}
-use Rattle.exchange.specs.Record.{hostVerdict}
-use Rattle.exchange.specs.declared.record.Central.{Central}
+use Rattle.central_record.specs.Record.{hostVerdict}
+use Rattle.central_record.specs.declared.record.Central.{Central}
 use Rattle.single.specs.Order.{orElse}
-use Rattle.single.specs.Overlap.{sharesWord}
-use Rattle.single.specs.Stint.{StintMemory, stintOf}
+use Rattle.stint.specs.Overlap.{sharesWord}
+use Rattle.stint.specs.Stint.{StintMemory, stintOf}
 use Rattle.single.specs.declared.program.RunAnswer.{RunAnswer}
 
 -- "12 any two of the listed packages and fields share a word": here one package and one field

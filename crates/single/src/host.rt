@@ -2,12 +2,12 @@
 ghost use mathlib.Core.Path.{_≡_};
 ghost use Rattle.exchange.specs.Accepted.{HostAccepted};
 ghost use Rattle.single.specs.Host.{machine, turnedOnce, exchangeVerdict, answerTo, turnAnswer, exchangeAnswer};
-use super::field::run;
+use central_record::record::Central;
+use central_record::record::host_verdict;
 use exchange::jump::exchange_jump;
 use exchange::jump::package_verdict;
-use exchange::record::Central;
-use exchange::record::host_verdict;
 use outcome::refusal::Verdict;
+use stint::field::run;
 
 // The verdict and the record.
 pub struct Answer {

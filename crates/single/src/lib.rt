@@ -1,5 +1,3 @@
 // SINGLE: the entry points on one program, its exchange package and its field.
-pub mod field;
 pub mod host;
 pub mod program;
-pub mod stint;

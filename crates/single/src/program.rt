@@ -3,15 +3,15 @@ ghost use mathlib.Core.Path.{_≡_};
 ghost use Prim.Native.Nat.{_+_, _≤_};
 ghost use lib.ListN.{length};
 ghost use Rattle.exchange.specs.Accepted.{PackageAccepted};
-ghost use Rattle.single.specs.Overlap.{sharesWord};
+ghost use Rattle.stint.specs.Overlap.{sharesWord};
 ghost use Rattle.single.specs.Program.{overlapVerdict, ownerVerdict, runVerdict, runTo, runAnswer};
-use super::stint::stint;
+use central_record::record::Central;
+use central_record::record::host_verdict;
 use exchange::jump::package_verdict;
-use exchange::package::load;
-use exchange::record::Central;
-use exchange::record::host_verdict;
+use exchange_package::package::load;
 use outcome::refusal::Refusal;
 use outcome::refusal::Verdict;
+use stint::stint::stint;
 
 // The verdict, the record, the turns made, and the stop's number, or 0.
 pub struct RunAnswer {

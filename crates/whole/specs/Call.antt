@@ -5,9 +5,10 @@ use Rattle.outcome.specs.declared.refusal.Verdict.{Verdict}
 use Rattle.outcome.specs.declared.refusal.Verdict.the-variants as Call
 use Rattle.machine.specs.Machine.{Machine}
 use Rattle.machine_record.specs.Numbers.{recordOf, machineOf}
-use Rattle.machine_record.specs.Verdict.{processorsIn, turnVerdict, runVerdict}
+use Rattle.machine_verdict.specs.Verdict.{processorsIn, turnVerdict, runVerdict}
 use Rattle.machine_record.specs.declared.record.MachineRecord.{MachineRecord}
-use Rattle.rounds.specs.Rounds.{processorTurned, Run, roundsOf}
+use Rattle.rounds.specs.Rounds.{Run, roundsOf}
+use Rattle.processors.specs.Processors.{processorTurned}
 use Rattle.whole.specs.declared.call.TurnAnswer.{TurnAnswer}
 use Rattle.whole.specs.declared.call.RunAnswer.{RunAnswer}
 use Rattle.whole.specs.declared.call.Ran.{Ran}

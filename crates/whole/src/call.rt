@@ -2,16 +2,17 @@
 ghost use mathlib.Core.Path.{_≡_};
 ghost use Rattle.outcome.specs.declared.refusal.Verdict.the-variants as Call;
 ghost use Rattle.machine_record.specs.Numbers.{machineOf};
-ghost use Rattle.machine_record.specs.Verdict.{processorsIn, turnVerdict, runVerdict};
-ghost use Rattle.rounds.specs.Rounds.{processorTurned, roundsOf};
+ghost use Rattle.machine_verdict.specs.Verdict.{processorsIn, turnVerdict, runVerdict};
+ghost use Rattle.rounds.specs.Rounds.{roundsOf};
+ghost use Rattle.processors.specs.Processors.{processorTurned};
 ghost use Rattle.whole.specs.Call.{left, leftBy, leftAfter, turnAnswer, runAnswer};
 use machine_record::numbers::numbers_of;
 use machine_record::numbers::record_of;
 use machine_record::record::MachineRecord;
-use machine_record::verdict::run_verdict;
-use machine_record::verdict::turn_verdict;
+use machine_verdict::verdict::run_verdict;
+use machine_verdict::verdict::turn_verdict;
 use outcome::refusal::Verdict;
-use rounds::processors::processor_turn;
+use processors::processors::processor_turn;
 use rounds::round;
 
 // The verdict and the record.

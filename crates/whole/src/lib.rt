@@ -1,2 +1,2 @@
-// WHOLE: the entry points on the whole machine, with peripheral processors, channels and clock. The device calls are in `channel`.
+// WHOLE: the entry points on the whole machine, with peripheral processors, channels and clock. The device calls are in `device`.
 pub mod call;

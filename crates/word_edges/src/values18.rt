@@ -1,13 +1,13 @@
 // Operations on values of 18 bits, alone and with a word.
 ghost use Prim.Native.Nat.{_<_, _^_};
 use super::show;
+use branch_condition::conditions::comparison;
 use shift::floating::pack;
 use shift::shifts::nominal_left;
 use shift::shifts::nominal_right;
 use shift::shifts::rotate_left18;
 use shift::shifts::shift_a;
 use shift::shifts::shift_right18;
-use word::conditions::comparison;
 use word::logic::logical_difference;
 use word::logic::logical_product;
 use word::logic::selective_clear;

@@ -1,19 +1,12 @@
 // Operations on words of 60 bits.
 ghost use Prim.Native.Nat.{_<_, _^_};
 use super::show;
+use branch_condition::conditions::word_condition;
 use shift::floating::unpack;
 use shift::shifts::count_ones60;
 use shift::shifts::mask60;
 use shift::shifts::rotate_left60;
 use shift::shifts::shift_right60;
-use word::conditions::word_condition;
-use word::fields::code;
-use word::fields::constant_k;
-use word::fields::digit;
-use word::fields::from_parts;
-use word::fields::jk;
-use word::fields::parcel;
-use word::fields::part;
 use word::logic::logical;
 use word::sums::complement60;
 use word::sums::difference60;
@@ -21,6 +14,13 @@ use word::sums::is_negative60;
 use word::sums::low12;
 use word::sums::low18;
 use word::sums::sum60;
+use word_fields::fields::code;
+use word_fields::fields::constant_k;
+use word_fields::fields::digit;
+use word_fields::fields::from_parts;
+use word_fields::fields::jk;
+use word_fields::fields::parcel;
+use word_fields::fields::part;
 
 const EDGES: [u64; 12] = [
     0,

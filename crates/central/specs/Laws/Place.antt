@@ -7,16 +7,16 @@ use native.Mathlib.Omega.{arith}
 use lib.Dec.{ltb}
 use Rattle.instruction.specs.Registers.{setA}
 use Rattle.instruction.specs.Instruction.{decoded, parcelsOf}
-use Rattle.instruction.specs.Effects.{effectOf}
-use Rattle.instruction.specs.declared.effect.Effect.{Effect}
-use Rattle.instruction.specs.declared.effect.Effect.the-variants.{Pass, Stop, Jump, ReturnJump, SetA, SetB, SetX, SetXB}
-use Rattle.central.specs.declared.apply.Step.the-variants as Then
-use Rattle.central.specs.State.{State, state}
-use Rattle.central.specs.Address.{bounds, placeOf}
-use Rattle.central.specs.Apply.{After, referred, aSet, storedAt, returnJumped, applied}
+use Rattle.central_effect.specs.Effects.{effectOf}
+use Rattle.central_effect.specs.declared.effect.Effect.{Effect}
+use Rattle.central_effect.specs.declared.effect.Effect.the-variants.{Pass, Stop, Jump, ReturnJump, SetA, SetB, SetX, SetXB}
+use Rattle.central_state.specs.declared.apply.Step.the-variants as Then
+use Rattle.central_state.specs.State.{State, state}
+use Rattle.field_test.specs.Address.{bounds, placeOf}
+use Rattle.central_state.specs.Apply.{After, referred, aSet, storedAt, returnJumped, applied}
 use Rattle.central.specs.Turn.{ranAt, stepOf, Turn, turned, turnEnd, goOn, parcelsRun, fetched, turnOf, afterTurn, turnsOf}
-use Rattle.central.specs.declared.address.Place.the-variants.{Inside, Outside}
-use Rattle.central.specs.declared.apply.Step.{Step}
+use Rattle.field_test.specs.declared.address.Place.the-variants.{Inside, Outside}
+use Rattle.central_state.specs.declared.apply.Step.{Step}
 
 -- where the word at RA + n stands in the field
 pub place-back : (ra n : ℕ) → ra + n - ra ≡ n

@@ -7,11 +7,11 @@ use native.Mathlib.Omega.{arith}
 use borrow.Author.Tests.{eq-eqb, ne-eqb, eqb-true, eqb-false}
 use lib.Dec.{eqb, lit≤}
 use Rattle.word.specs.Laws.Choice.{of-cond}
-use Rattle.central.specs.State.{State}
+use Rattle.central_state.specs.State.{State}
 use Rattle.central.specs.Turn.{Turn, turnOf, Run, ran, runEnd, turnsBefore, turnsOf}
-use Rattle.central.specs.Widths.{Kept}
+use Rattle.central_state.specs.Widths.{Kept}
 use Rattle.central.specs.Laws.Turn.{Left, turn-left}
-use Rattle.central.specs.declared.address.Bounds.{Bounds}
+use Rattle.field_test.specs.declared.address.Bounds.{Bounds}
 
 -- counts add up
 no-turns-before : (o : Run) → turnsBefore 0 o ≡ o

@@ -9,24 +9,24 @@ use lib.Dec.{eqb, ltb}
 use Rattle.word.specs.Laws.Choice.{of-cond}
 use Rattle.outcome.specs.declared.stop.CentralStop.the-variants as Because
 use Rattle.instruction.specs.Instruction.{decoded, isFit, parcelsOf}
-use Rattle.instruction.specs.Effects.{effectOf}
-use Rattle.instruction.specs.Widths.{Sound}
+use Rattle.central_effect.specs.Effects.{effectOf}
+use Rattle.central_effect.specs.Sound.{Sound}
 use Rattle.instruction.specs.Laws.Codes.{parcels-few}
-use Rattle.instruction.specs.Laws.Effects.{decoded-fits, effect-sound}
-use Rattle.instruction.specs.declared.effect.Effect.{Effect}
-use Rattle.instruction.specs.declared.effect.Effect.the-variants.{Pass, Stop, Jump, ReturnJump, SetA, SetB, SetX, SetXB}
+use Rattle.central_effect.specs.Laws.Effects.{decoded-fits, effect-sound}
+use Rattle.central_effect.specs.declared.effect.Effect.{Effect}
+use Rattle.central_effect.specs.declared.effect.Effect.the-variants.{Pass, Stop, Jump, ReturnJump, SetA, SetB, SetX, SetXB}
 use Rattle.instruction.specs.declared.instruction.Instruction.{Instruction}
-use Rattle.central.specs.declared.apply.Step.the-variants as Then
-use Rattle.central.specs.State.{State}
-use Rattle.central.specs.Address.{placeOf, relative}
-use Rattle.central.specs.Apply.{After, stopsOutside, referred, aSet, storedAt, returnJumped, applied}
+use Rattle.central_state.specs.declared.apply.Step.the-variants as Then
+use Rattle.central_state.specs.State.{State}
+use Rattle.field_test.specs.Address.{placeOf, relative}
+use Rattle.central_state.specs.Apply.{After, stopsOutside, referred, aSet, storedAt, returnJumped, applied}
 use Rattle.central.specs.Turn.{stoppedBy, ranAt, stepOf}
-use Rattle.central.specs.Widths.{Kept}
-use Rattle.central.specs.Laws.Widths.{KeptAfter, apply-keeps}
-use Rattle.central.specs.declared.address.Bounds.{Bounds}
-use Rattle.central.specs.declared.address.Place.{Place}
-use Rattle.central.specs.declared.address.Place.the-variants.{Inside, Outside}
-use Rattle.central.specs.declared.apply.Step.{Step}
+use Rattle.central_state.specs.Widths.{Kept}
+use Rattle.central_state.specs.Laws.Widths.{KeptAfter, apply-keeps}
+use Rattle.field_test.specs.declared.address.Bounds.{Bounds}
+use Rattle.field_test.specs.declared.address.Place.{Place}
+use Rattle.field_test.specs.declared.address.Place.the-variants.{Inside, Outside}
+use Rattle.central_state.specs.declared.apply.Step.{Step}
 
 -- an instruction, by the results of its parts
 module _ (s : State) (b : Bounds) (p place : ℕ) (q : Instruction) (fit : Bool) (ef : fit ≡ isFit (q .code) (q .i)) where

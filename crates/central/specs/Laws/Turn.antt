@@ -8,17 +8,17 @@ use Rattle.word.specs.Laws.Choice.{of-cond}
 use Rattle.outcome.specs.declared.stop.CentralStop.the-variants as Because
 use Rattle.outcome.specs.Numbers.{centralStopNumber}
 use Rattle.outcome.specs.declared.stop.CentralStop.{CentralStop}
-use Rattle.central.specs.declared.apply.Step.the-variants as Then
-use Rattle.central.specs.State.{State}
-use Rattle.central.specs.Address.{placeOf}
-use Rattle.central.specs.Apply.{After}
+use Rattle.central_state.specs.declared.apply.Step.the-variants as Then
+use Rattle.central_state.specs.State.{State}
+use Rattle.field_test.specs.Address.{placeOf}
+use Rattle.central_state.specs.Apply.{After}
 use Rattle.central.specs.Turn.{stepOf, Turn, turned, turnEnd, goOn, parcelsRun, wordRun, fetched, turnOf}
-use Rattle.central.specs.Widths.{Kept}
-use Rattle.central.specs.Laws.Widths.{KeptAfter}
+use Rattle.central_state.specs.Widths.{Kept}
+use Rattle.central_state.specs.Laws.Widths.{KeptAfter}
 use Rattle.central.specs.Laws.Step.{Later, step-keeps, step-reaches}
-use Rattle.central.specs.declared.address.Bounds.{Bounds}
-use Rattle.central.specs.declared.address.Place.{Place}
-use Rattle.central.specs.declared.apply.Step.{Step}
+use Rattle.field_test.specs.declared.address.Bounds.{Bounds}
+use Rattle.field_test.specs.declared.address.Place.{Place}
+use Rattle.central_state.specs.declared.apply.Step.{Step}
 use Rattle.central.specs.declared.turn.TurnEnd.{TurnEnd}
 
 -- the state of the loop: what is left to run gives what the whole word gives

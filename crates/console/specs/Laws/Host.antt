@@ -13,9 +13,9 @@ use Rattle.outcome.specs.declared.refusal.Verdict.{Verdict}
 use Rattle.outcome.specs.declared.refusal.Verdict.the-variants as Call
 use Rattle.word.specs.Laws.Choice.{of-cond}
 use Rattle.word.specs.Laws.Tests.{both}
-use Rattle.exchange.specs.Indexed.{allBelow}
-use Rattle.exchange.specs.Record.{emFits, registersFit, recordFits, hostVerdict}
-use Rattle.exchange.specs.Laws.Record.{of-word-width}
+use Rattle.central_record.specs.Indexed.{allBelow}
+use Rattle.central_record.specs.Record.{emFits, registersFit, recordFits, hostVerdict}
+use Rattle.central_record.specs.Laws.Record.{of-word-width}
 use Rattle.exchange.specs.Laws.Verdicts.{of-host-accepted}
 use Rattle.single.specs.Order.{orElse}
 use Rattle.exchange.specs.Jump.{packageInside, packageClean, fieldInside}

@@ -13,7 +13,7 @@ use Rattle.outcome.specs.declared.refusal.Verdict.{Verdict}
 use Rattle.outcome.specs.declared.refusal.Verdict.the-variants as Call
 use Rattle.outcome.specs.declared.refusal.Refusal.the-variants as Refusal
 use Rattle.word.specs.Laws.Tests.{both}
-use Rattle.exchange.specs.Record.{hostVerdict}
+use Rattle.central_record.specs.Record.{hostVerdict}
 use Rattle.single.specs.Order.{orElse}
 use Rattle.schedule.specs.Refusals.{listsFit, listsVerdict, ownersVerdict, scheduleVerdict}
 use Rattle.schedule.specs.Schedule.{Schedule}

@@ -10,11 +10,12 @@ use Rattle.outcome.specs.declared.refusal.Verdict.{Verdict}
 use Rattle.outcome.specs.declared.refusal.Verdict.the-variants as Call
 use Rattle.octal.specs.Write.{Wrote}
 use Rattle.octal.specs.Laws.Write.{length-wrote, wrote-then}
-use Rattle.exchange.specs.declared.record.Central.{Central}
+use Rattle.central_record.specs.declared.record.Central.{Central}
 use Rattle.schedule.specs.Refusals.{mostStints, scheduleVerdict}
 use Rattle.schedule.specs.Schedule.{Schedule, scheduleEnd}
 use Rattle.schedule.specs.Laws.Refusals.{ListsAccepted, accepted-lists}
-use Rattle.shared.specs.Answer.{Answered, answerTo, answerBy, scheduleOf, scheduleAnswer}
+use Rattle.shared.specs.Answer.{Answered, answerTo, answerBy, scheduleAnswer}
+use Rattle.schedule.specs.Schedule.{scheduleOf}
 use Rattle.shared.specs.Laws.Isolation.{same-verdict, one-each}
 use Rattle.shared.specs.declared.call.ScheduleAnswer.{ScheduleAnswer}
 use Rattle.reading.specs.Reading.{Request, request}

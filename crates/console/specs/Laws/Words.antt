@@ -6,7 +6,7 @@ use lib.ListN.{getD}
 use Rattle.octal.specs.Laws.Again.{read-text}
 use Rattle.octal.specs.Laws.Write.{length-digits}
 use Rattle.octal.specs.Write.{digits}
-use Rattle.exchange.specs.Laws.Record.{word-width}
+use Rattle.central_record.specs.Laws.Record.{word-width}
 use Rattle.exchange.specs.Accepted.{HostAccepted}
 use Rattle.schedule.specs.Isolation.{Accepted}
 use Rattle.schedule.specs.Laws.Projection.{stints-keep}

@@ -5,14 +5,14 @@ use mathlib.Core.Path.{_≡_, ap₂, _∙_}
 use Prim.Native.Nat.{ℕ, _+_, _^_, _≤_, _<_}
 use lib.ListN.{length, getD}
 use Rattle.outcome.specs.declared.refusal.Verdict.the-variants as Call
-use Rattle.exchange.specs.declared.record.Central.{Central}
-use Rattle.exchange.specs.Record.{recordFits, wordsFit, FitsPackage, hostVerdict}
-use Rattle.exchange.specs.Memory.{part, splice}
-use Rattle.exchange.specs.Package.{coded, hasStray}
+use Rattle.central_record.specs.declared.record.Central.{Central}
+use Rattle.central_record.specs.Record.{recordFits, wordsFit, FitsPackage, hostVerdict}
+use Rattle.exchange_package.specs.Memory.{part, splice}
+use Rattle.exchange_package.specs.Package.{coded, hasStray}
 use Rattle.exchange.specs.Jump.{recordAt, packageVerdict, exchangedTo, exchanged}
-use Rattle.exchange.specs.Laws.Record.{fits, word-width, of-word-width}
-use Rattle.exchange.specs.Laws.Memory.{part-lt, length-part, splice-part, length-splice, part-splice, splice-splice, word-below, word-above, splice-lt}
-use Rattle.exchange.specs.Laws.Package.{running, length-coded, decoded-coded, coded-decoded, no-stray, decoded-fits, coded-no-stray, coded-lt}
+use Rattle.central_record.specs.Laws.Record.{fits, word-width, of-word-width}
+use Rattle.exchange_package.specs.Laws.Memory.{part-lt, length-part, splice-part, length-splice, part-splice, splice-splice, word-below, word-above, splice-lt}
+use Rattle.exchange_package.specs.Laws.Package.{running, length-coded, decoded-coded, coded-decoded, no-stray, decoded-fits, coded-no-stray, coded-lt}
 use Rattle.exchange.specs.Laws.Verdicts.{host-accepted, of-host-accepted, package-accepted, of-package-accepted}
 
 module _ (m : List ℕ) (c : Central) (at : ℕ) (inside : at + 16 ≤ length m) where

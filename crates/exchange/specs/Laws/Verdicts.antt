@@ -10,10 +10,10 @@ use lib.ListN.{length}
 use Rattle.outcome.specs.declared.refusal.Refusal.{Refusal}
 use Rattle.outcome.specs.declared.refusal.Verdict.{Verdict}
 use Rattle.outcome.specs.declared.refusal.Verdict.the-variants as Call
-use Rattle.exchange.specs.declared.record.Central.{Central}
-use Rattle.exchange.specs.Record.{recordFits, wordsFit, hostVerdict}
-use Rattle.exchange.specs.Memory.{part}
-use Rattle.exchange.specs.Package.{hasStray}
+use Rattle.central_record.specs.declared.record.Central.{Central}
+use Rattle.central_record.specs.Record.{recordFits, wordsFit, hostVerdict}
+use Rattle.exchange_package.specs.Memory.{part}
+use Rattle.exchange_package.specs.Package.{hasStray}
 use Rattle.exchange.specs.Jump.{recordAt, packageInside, packageClean, fieldInside, packageVerdict}
 use Rattle.exchange.specs.Accepted.{HostAccepted, PackageAccepted}
 use Rattle.word.specs.Laws.Tests.{both}

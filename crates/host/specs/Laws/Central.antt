@@ -8,19 +8,19 @@ use lib.Seq.{sets}
 use Rattle.outcome.specs.Numbers.{verdictNumber}
 use Rattle.outcome.specs.declared.refusal.Verdict.{Verdict}
 use Rattle.outcome.specs.declared.refusal.Verdict.the-variants as Call
-use Rattle.exchange.specs.Record.{hostVerdict}
+use Rattle.central_record.specs.Record.{hostVerdict}
 use Rattle.exchange.specs.Accepted.{HostAccepted}
 use Rattle.exchange.specs.Laws.Verdicts.{host-accepted}
-use Rattle.exchange.specs.declared.record.Central.{Central}
+use Rattle.central_record.specs.declared.record.Central.{Central}
 use Rattle.single.specs.Host.{Machine, Answered, answerTo, answerBy, turnAnswer, exchangeAnswer}
 use Rattle.single.specs.Program.{runTo, runAnswer}
 use Rattle.single.specs.Laws.Host.{exchange-host}
 use Rattle.single.specs.declared.host.Answer.{Answer}
 use Rattle.single.specs.declared.program.RunAnswer.{RunAnswer}
-use Rattle.flat.specs.Layout.{centralNumbers}
-use Rattle.flat.specs.Lent.{centralLent}
-use Rattle.flat.specs.Laws.Lent.{central-length}
-use Rattle.flat.specs.Back.{Back, back, backBy, shortNumber}
+use Rattle.flat_record.specs.Layout.{centralNumbers}
+use Rattle.flat_record.specs.Lent.{centralLent}
+use Rattle.flat_record.specs.Laws.Lent.{central-length}
+use Rattle.flat_answer.specs.Back.{Back, back, backBy, shortNumber}
 use Rattle.host.specs.Central.{centralLeft, centralLeftBy, centralTurn, centralExchange, resultLeft, programLeft, programRun}
 
 verdict-of : (v : Verdict) (given after : Machine) → answerBy v given after .answer .verdict ≡ v

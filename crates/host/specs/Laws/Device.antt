@@ -10,16 +10,16 @@ use lib.ListN.{length}
 use Rattle.outcome.specs.declared.refusal.Refusal.the-variants as Because
 use Rattle.outcome.specs.declared.refusal.Verdict.{Verdict}
 use Rattle.outcome.specs.declared.refusal.Verdict.the-variants as Call
-use Rattle.channel.specs.Device.{putOf, takeOf, dropOf}
-use Rattle.channel.specs.declared.device.DeviceAnswer.{DeviceAnswer}
-use Rattle.channel.specs.declared.device.TakeAnswer.{TakeAnswer}
-use Rattle.channel.specs.declared.device.Taken.the-variants as Take
+use Rattle.device.specs.Device.{putOf, takeOf, dropOf}
+use Rattle.device.specs.declared.calls.DeviceAnswer.{DeviceAnswer}
+use Rattle.device.specs.declared.calls.TakeAnswer.{TakeAnswer}
+use Rattle.device.specs.declared.calls.Taken.the-variants as Take
 use Rattle.channel.specs.declared.record.Channel.{Channel}
-use Rattle.flat.specs.Back.{Back, backBy, shortNumber}
-use Rattle.flat.specs.Layout.{channelNumbers}
-use Rattle.flat.specs.Lent.{channelLent}
-use Rattle.flat.specs.Results.{TakeLeft, takeLeft, takeBy, TakeStorable}
-use Rattle.flat.specs.Laws.Lent.{channel-length}
+use Rattle.flat_answer.specs.Back.{Back, backBy, shortNumber}
+use Rattle.flat_record.specs.Layout.{channelNumbers}
+use Rattle.flat_record.specs.Lent.{channelLent}
+use Rattle.flat_answer.specs.Results.{TakeLeft, takeLeft, takeBy, TakeStorable}
+use Rattle.flat_record.specs.Laws.Lent.{channel-length}
 use Rattle.host.specs.Device.{channelLeftBy, channelPut, channelDrop, channelVerdict, channelTake}
 
 -- a test whose refusal is first

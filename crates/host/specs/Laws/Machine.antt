@@ -8,16 +8,16 @@ use lib.ListN.{length}
 use lib.Seq.{sets}
 use Rattle.outcome.specs.declared.refusal.Verdict.{Verdict}
 use Rattle.outcome.specs.declared.refusal.Verdict.the-variants as Call
-use Rattle.machine_record.specs.Verdict.{machineVerdict, turnVerdict, runVerdict}
-use Rattle.machine_record.specs.Laws.Verdict.{machine-accepted, turn-accepted, run-accepted}
+use Rattle.machine_verdict.specs.Verdict.{machineVerdict, turnVerdict, runVerdict}
+use Rattle.machine_verdict.specs.Laws.Verdict.{machine-accepted, turn-accepted, run-accepted}
 use Rattle.machine_record.specs.declared.record.MachineRecord.{MachineRecord}
 use Rattle.whole.specs.Call.{Left, left, answerBy, turnGiven, turnAnswer, runGiven, runAnswer}
 use Rattle.whole.specs.declared.call.TurnAnswer.{TurnAnswer}
 use Rattle.whole.specs.declared.call.RunAnswer.{RunAnswer}
-use Rattle.flat.specs.Layout.{machineNumbers}
-use Rattle.flat.specs.Lent.{machineLent}
-use Rattle.flat.specs.Laws.Lent.{machine-length}
-use Rattle.flat.specs.Back.{Back, back, backBy, shortNumber}
+use Rattle.flat_record.specs.Layout.{machineNumbers}
+use Rattle.flat_record.specs.Lent.{machineLent}
+use Rattle.flat_record.specs.Laws.Lent.{machine-length}
+use Rattle.flat_answer.specs.Back.{Back, back, backBy, shortNumber}
 use Rattle.host.specs.Machine.{machineLeft, machineLeftBy, processorTurn, runLeft, runLeftBy, machineRun}
 
 -- the verdict that a call answers with

@@ -6,14 +6,15 @@ use borrow.Author.Tests.{le-leb, lt-leb}
 use lib.ListN.{length}
 use Rattle.outcome.specs.Numbers.{verdictNumber}
 use Rattle.outcome.specs.declared.refusal.Verdict.{Verdict}
-use Rattle.exchange.specs.Record.{hostVerdict}
-use Rattle.exchange.specs.declared.record.Central.{Central}
-use Rattle.shared.specs.Answer.{answerTo, scheduleOf, scheduleAnswer}
+use Rattle.central_record.specs.Record.{hostVerdict}
+use Rattle.central_record.specs.declared.record.Central.{Central}
+use Rattle.shared.specs.Answer.{answerTo, scheduleAnswer}
+use Rattle.schedule.specs.Schedule.{scheduleOf}
 use Rattle.shared.specs.declared.call.ScheduleAnswer.{ScheduleAnswer}
-use Rattle.flat.specs.Back.{shortNumber}
-use Rattle.flat.specs.Layout.{Stores, rows}
-use Rattle.flat.specs.Lent.{centralLent}
-use Rattle.flat.specs.Results.{stintRow}
+use Rattle.flat_answer.specs.Back.{shortNumber}
+use Rattle.flat_record.specs.Layout.{Stores, rows}
+use Rattle.flat_record.specs.Lent.{centralLent}
+use Rattle.flat_answer.specs.Results.{stintRow}
 use Rattle.host.specs.Central.{resultLeft}
 use Rattle.host.specs.Schedule.{scheduleLeft, scheduleRun}
 

@@ -1,9 +1,9 @@
--- `lent_channel::drop` meets its contract: the walk of `LoanAlone`, at `channel::device::drop`. Assumes nothing.
+-- `lent_channel::drop` meets its contract: the walk of `LoanAlone`, at `device::calls::drop`. Assumes nothing.
 use mathlib.Core.Path.{_≡_}
-use Rattle.channel.specs.Device.{dropOf, Drops}
-use Rattle.channel.proofs.device.drop.Symbol as g
-use Rattle.channel.proofs.device.drop.Met as g-thm
-use Rattle.channel.proofs.DeviceTypes.{types}
+use Rattle.device.specs.Device.{dropOf, Drops}
+use Rattle.device.proofs.calls.drop.Symbol as g
+use Rattle.device.proofs.calls.drop.Met as g-thm
+use Rattle.device.proofs.DeviceTypes.{types}
 use Rattle.lent_channel.proofs.DeviceTypes.{loan}
 use Rattle.lent_channel.proofs.LoanAlone.{proved}
 use Rattle.lent_channel.proofs.drop.Key as key
@@ -15,4 +15,4 @@ pub drop-spec : {M : Type 1} → stated.statement M
 unfolding code.routine
 drop-spec 𝓤 H 𝓜 𝓖 𝓡 =
     proved types loan Drops (λ c r. r ≡ dropOf c) (λ c v d e. e) g.name 𝓤 H 𝓜 𝓖 𝓡 code.env key.name g.routine
-    code.calls-channel·device·drop (code.unfolded 𝓤 H 𝓜 𝓡) (g-thm.met 𝓤 H 𝓜 𝓖 𝓡)
+    code.calls-device·calls·drop (code.unfolded 𝓤 H 𝓜 𝓡) (g-thm.met 𝓤 H 𝓜 𝓖 𝓡)

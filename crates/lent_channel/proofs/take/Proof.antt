@@ -1,9 +1,9 @@
--- `lent_channel::take` meets its contract: the walk of `LoanAlone`, at `channel::device::take`. Assumes nothing.
+-- `lent_channel::take` meets its contract: the walk of `LoanAlone`, at `device::calls::take`. Assumes nothing.
 use mathlib.Core.Path.{_≡_}
-use Rattle.channel.specs.Device.{takeOf, Takes}
-use Rattle.channel.proofs.device.take.Symbol as g
-use Rattle.channel.proofs.device.take.Met as g-thm
-use Rattle.channel.proofs.TakeTypes.{types}
+use Rattle.device.specs.Device.{takeOf, Takes}
+use Rattle.device.proofs.calls.take.Symbol as g
+use Rattle.device.proofs.calls.take.Met as g-thm
+use Rattle.device.proofs.TakeTypes.{types}
 use Rattle.lent_channel.proofs.TakeTypes.{loan}
 use Rattle.lent_channel.proofs.LoanAlone.{proved}
 use Rattle.lent_channel.proofs.take.Key as key
@@ -15,4 +15,4 @@ pub take-spec : {M : Type 1} → stated.statement M
 unfolding code.routine
 take-spec 𝓤 H 𝓜 𝓖 𝓡 =
     proved types loan Takes (λ c r. r ≡ takeOf c) (λ c v d e. e) g.name 𝓤 H 𝓜 𝓖 𝓡 code.env key.name g.routine
-    code.calls-channel·device·take (code.unfolded 𝓤 H 𝓜 𝓡) (g-thm.met 𝓤 H 𝓜 𝓖 𝓡)
+    code.calls-device·calls·take (code.unfolded 𝓤 H 𝓜 𝓡) (g-thm.met 𝓤 H 𝓜 𝓖 𝓡)

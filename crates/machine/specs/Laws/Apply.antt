@@ -3,7 +3,7 @@ use mathlib.Core.List.{List}
 use mathlib.Core.Path.{_≡_, ap, _∙_}
 use Prim.Native.Nat.{ℕ}
 use Rattle.exchange.specs.Jump.{exchangedTo, exchanged}
-use Rattle.exchange.specs.declared.record.Central.{Central}
+use Rattle.central_record.specs.declared.record.Central.{Central}
 use Rattle.machine.specs.Numbers.{centralOf, withCentral}
 use Rattle.machine.specs.Machine.{centralSide}
 use Rattle.machine.specs.Apply.{afterExchange, exchangedAt}

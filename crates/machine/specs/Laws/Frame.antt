@@ -5,12 +5,12 @@ use Prim.Native.Nat.{ℕ, _+_, _^_, _≤_, _<_}
 use native.Mathlib.Omega.{arith}
 use lib.ListN.{getD, set, length}
 use lib.Seq.{getD-set-other}
-use Rattle.word.specs.Fields.{part, fromParts}
-use Rattle.word.specs.Laws.Fields.{parts-of, from-parts}
+use Rattle.word_fields.specs.Fields.{part, fromParts}
+use Rattle.word_fields.specs.Laws.Fields.{parts-of, from-parts}
 use Rattle.channel.specs.declared.record.Channel.{Channel}
 use Rattle.outcome.specs.Numbers.{peripheralStopNumber}
 use Rattle.exchange.specs.Jump.{exchanged}
-use Rattle.exchange.specs.declared.record.Central.{Central}
+use Rattle.central_record.specs.declared.record.Central.{Central}
 use Rattle.machine.specs.declared.effect.Effect.{Effect}
 use Rattle.machine.specs.declared.effect.Effect.the-variants.{Advance, Store, ReadCentral, WriteCentral, SetChannel, Exchange, Wait, Stop}
 use Rattle.machine.specs.Numbers.{processorOf, advanced, flag, withChannel, centralOf, withControls}

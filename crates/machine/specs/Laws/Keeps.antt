@@ -4,19 +4,19 @@ use mathlib.Core.Path.{_≡_, refl, sym, subst, _∙_}
 use Prim.Native.Nat.{ℕ, _+_, _^_, _<_}
 use native.Mathlib.Omega.{arith}
 use lib.ListN.{set, length, length-set}
-use Rattle.word.specs.Fields.{part}
+use Rattle.word_fields.specs.Fields.{part}
 use Rattle.word.specs.Laws.Bits.{bits-lt}
 use Rattle.outcome.specs.declared.stop.PeripheralStop.{PeripheralStop}
 use Rattle.channel.specs.Laws.Width.{Fits}
 use Rattle.channel.specs.declared.record.Channel.{Channel}
-use Rattle.exchange.specs.Memory as Memory
+use Rattle.exchange_package.specs.Memory as Memory
 use Rattle.exchange.specs.Jump.{exchanged}
-use Rattle.exchange.specs.Laws.Record.{word-width, of-word-width}
-use Rattle.exchange.specs.Laws.Package.{count-decoded}
+use Rattle.central_record.specs.Laws.Record.{word-width, of-word-width}
+use Rattle.exchange_package.specs.Laws.Package.{count-decoded}
 use Rattle.exchange.specs.Accepted.{HostAccepted, PackageAccepted}
 use Rattle.exchange.specs.Laws.Verdicts.{host-accepted, of-host-accepted, of-package-accepted}
 use Rattle.exchange.specs.Laws.Jump.{exchange-length, exchange-host-accepted}
-use Rattle.exchange.specs.declared.record.Central.{Central}
+use Rattle.central_record.specs.declared.record.Central.{Central}
 use Rattle.machine.specs.declared.effect.Effect.{Effect}
 use Rattle.machine.specs.declared.effect.Effect.the-variants.{Advance, Store, ReadCentral, WriteCentral, SetChannel, Exchange, Wait, Stop}
 use Rattle.machine.specs.Numbers.{advanced, stopped, withChannel, centralOf}

@@ -14,7 +14,7 @@ use Rattle.outcome.specs.declared.stop.PeripheralStop.{PeripheralStop}
 use Rattle.outcome.specs.declared.stop.PeripheralStop.the-variants as Peripheral
 use Rattle.channel.specs.Laws.Width.{Fits}
 use Rattle.channel.specs.declared.record.Channel.{Channel}
-use Rattle.exchange.specs.declared.record.Central.{Central}
+use Rattle.central_record.specs.declared.record.Central.{Central}
 use Rattle.machine.specs.Numbers.{processorOf, stopListed, advanced, stopped, flag, channelOf, withChannel, centralOf, withControls, withCentral, clockOf}
 use Rattle.machine.specs.Widths.{numberFits, Wide}
 

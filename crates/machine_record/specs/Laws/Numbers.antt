@@ -10,8 +10,8 @@ use lib.ListN.{getD, length, List·getD-eq-default}
 use Rattle.word.specs.Laws.Choice.{le-or-lt}
 use Rattle.channel.specs.Codes.{disconnected}
 use Rattle.channel.specs.declared.record.Channel.{Channel}
-use Rattle.exchange.specs.Laws.Indexed.{length-tabulate, getD-tabulate}
-use Rattle.exchange.specs.declared.record.Central.{Central}
+use Rattle.central_record.specs.Laws.Indexed.{length-tabulate, getD-tabulate}
+use Rattle.central_record.specs.declared.record.Central.{Central}
 use Rattle.machine.specs.Numbers.{processorOf, flag, isSet, channelOf, centralOf, clockOf}
 use Rattle.machine.specs.Widths.{numberFits, Wide}
 use Rattle.machine.specs.Laws.Widths.{at-p, at-a, at-stop, at-flag, at-word, at-central, at-clock}

@@ -4,8 +4,8 @@ use mathlib.Core.Path.{_≡_}
 use Prim.Native.Nat.{ℕ, _^_, _<_}
 use lib.Dec.{ltb}
 use Rattle.word.specs.Laws.Tests.{both}
-use Rattle.exchange.specs.Record.{recordFits}
-use Rattle.exchange.specs.Laws.Indexed.{all-at}
+use Rattle.central_record.specs.Record.{recordFits}
+use Rattle.central_record.specs.Laws.Indexed.{all-at}
 use Rattle.machine.specs.Numbers.{stopListed}
 use Rattle.machine.specs.declared.numbers.Processor.{Processor}
 use Rattle.machine_record.specs.declared.record.MachineRecord.{MachineRecord}

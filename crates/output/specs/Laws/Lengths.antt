@@ -7,8 +7,9 @@ use lib.ListN.{length, length-append}
 use Rattle.word.specs.Laws.Choice.{of-cond}
 use Rattle.octal.specs.Write.{octal}
 use Rattle.octal.specs.Laws.Write.{length-digits, length-octal}
-use Rattle.output.specs.Text.{refusedIs, decimal, line, stintLines, stintsLines, wordLine, wordLines, refusedLine}
-use Rattle.output.specs.Laws.Decimal.{length-decimal}
+use Rattle.output.specs.Text.{refusedIs, stintLines, stintsLines, wordLine, wordLines, refusedLine}
+use Rattle.output_line.specs.Line.{decimal, line}
+use Rattle.output_line.specs.Laws.Decimal.{length-decimal}
 
 pub length-octal-line : (name : List ℕ) (v : ℕ) → length (line name (octal v)) ≤ length name + 23
 length-octal-line name v = simp length-append (omega (arith, length-octal v))

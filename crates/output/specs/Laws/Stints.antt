@@ -6,7 +6,7 @@ use native.Mathlib.Numerals.{add-one}
 use native.Mathlib.Omega.{arith}
 use lib.ListN.{length, drop, getD, drop-of-length-le}
 use Rattle.output.specs.Text.{stintLines, stintsLines}
-use Rattle.output.specs.Laws.Bytes.{drop-next}
+use Rattle.output_line.specs.Laws.Bytes.{drop-next}
 
 -- the lines of the stints from index i on
 abbrev pub stintsFrom : ℕ → List ℕ → List ℕ → List ℕ → List ℕ

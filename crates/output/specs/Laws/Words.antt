@@ -9,7 +9,7 @@ use lib.ListN.{length, drop, getD, drop-of-length-le}
 use Rattle.octal.specs.Write.{digits, octal, Wrote}
 use Rattle.octal.specs.Laws.Write.{wrote-none, wrote-then}
 use Rattle.output.specs.Text.{wordLine, wordLines}
-use Rattle.output.specs.Laws.Bytes.{drop-next}
+use Rattle.output_line.specs.Laws.Bytes.{drop-next}
 
 pub wrote-zero : (out : List ℕ) (at address word : ℕ) → word ≡ 0 → Wrote out at (wordLine address word) out at
 unfolding wordLine

@@ -8,7 +8,7 @@ use lib.Dec.{ltb}
 use lib.ListN.{getD, length}
 use Rattle.word.specs.Bits.{bits, low}
 use Rattle.word.specs.Laws.Choice.{of-cond, of-getD}
-use Rattle.word.specs.Laws.Fields.{from-parts-lt}
+use Rattle.word_fields.specs.Laws.Fields.{from-parts-lt}
 use Rattle.outcome.specs.declared.refusal.Verdict.{Verdict}
 use Rattle.outcome.specs.declared.refusal.Verdict.the-variants as Call
 use Rattle.exchange.specs.Jump.{packageVerdict}
@@ -17,13 +17,13 @@ use Rattle.machine.specs.Numbers.{centralP}
 use Rattle.machine.specs.Widths.{Wide, Sound}
 use Rattle.machine.specs.declared.numbers.Processor.{Processor}
 use Rattle.processor.specs.Addresses.{word, onward, indexed}
-use Rattle.peripheral.specs.Central.{exchangeBy, exchangeOf, readCentral, joined, writeCentral}
-use Rattle.peripheral.specs.Channels.{channelJump, changeOn}
+use Rattle.peripheral_io.specs.Central.{exchangeBy, exchangeOf, readCentral, joined, writeCentral}
+use Rattle.peripheral_io.specs.Channels.{channelJump, changeOn}
 use Rattle.peripheral.specs.Turn.{leftOut, afterConstants, secondRowOf, centralWords, channelWords, sixthRowOf, seventhRowOf, rows, effectFrom, effectOf}
 use Rattle.processor.specs.Widths.{Memory, Held}
 use Rattle.processor.specs.Laws.Addresses.{onward-lt, indexed-lt}
 use Rattle.processor.specs.Laws.Effects.{pass-sound, jump-sound, short-sound, long-sound, operation-sound}
-use Rattle.peripheral.specs.Laws.Channels.{channel-jump-sound, input-from-sound, output-to-sound, change-on-sound}
+use Rattle.peripheral_io.specs.Laws.Channels.{channel-jump-sound, input-from-sound, output-to-sound, change-on-sound}
 
 module _ (c : List ℕ) (q : Processor) (g : Held q) where
   -- 26: a package that no fault refuses is accepted

@@ -17,7 +17,7 @@ use Rattle.machine.specs.declared.effect.Effect.{Effect}
 use Rattle.machine.specs.declared.effect.Effect.the-variants.{ReadCentral, WriteCentral, Wait, Stop}
 use Rattle.machine.specs.declared.numbers.Processor.{Processor}
 use Rattle.processor.specs.Addresses.{onward}
-use Rattle.peripheral.specs.Central.{readCentral, joined, writeCentral}
+use Rattle.peripheral_io.specs.Central.{readCentral, joined, writeCentral}
 use Rattle.peripheral.specs.Turn.{effectOf, turnOf}
 use Rattle.peripheral.specs.Laws.Turn.{turn-running}
 

@@ -5,8 +5,8 @@ use borrow.Author.Tests.{eqb-true, eqb-false}
 use lib.Dec.{eqb}
 use lib.ListN.{length}
 use Rattle.word.specs.Laws.Choice.{of-cond}
-use Rattle.exchange.specs.Record.{FitsPackage}
-use Rattle.exchange.specs.Laws.Record.{fits}
+use Rattle.central_record.specs.Record.{FitsPackage}
+use Rattle.central_record.specs.Laws.Record.{fits}
 use Rattle.machine.specs.Numbers.{processorOf, centralOf}
 use Rattle.machine.specs.Machine.{Machine}
 use Rattle.machine.specs.Apply.{applied}

@@ -7,15 +7,15 @@ use native.Mathlib.Omega.{arith}
 use borrow.Author.Tests.{ne-eqb, eqb-true}
 use lib.Dec.{eqb}
 use lib.ListN.{length, getD, length-set}
-use Rattle.central.specs.State.{state}
+use Rattle.central_state.specs.State.{state}
 use Rattle.central.specs.Turn.{Run}
 use Rattle.exchange.specs.Accepted.{HostAccepted}
 use Rattle.exchange.specs.Laws.Verdicts.{host-accepted, of-host-accepted}
-use Rattle.exchange.specs.Memory.{splice}
-use Rattle.exchange.specs.declared.record.Central.{Central}
-use Rattle.single.specs.Field.{fieldRun, after, ranOn}
+use Rattle.exchange_package.specs.Memory.{splice}
+use Rattle.central_record.specs.declared.record.Central.{Central}
+use Rattle.stint.specs.Field.{fieldRun, after, ranOn}
 use Rattle.single.specs.Host as Host
-use Rattle.single.specs.Laws.Field.{ran-left, ran-length}
+use Rattle.stint.specs.Laws.Field.{ran-left, ran-length}
 use Rattle.single.specs.Laws.Host.{once-is, stopped-stays, turn-accepted}
 use Rattle.machine.specs.Numbers.{centralOf, centralStop, withControls}
 use Rattle.machine.specs.Machine.{Machine, machine, CentralSide, centralSide}

@@ -8,8 +8,8 @@ use native.Mathlib.Omega.{arith}
 use lib.Dec.{lit≤}
 use lib.ListN.{length}
 use Rattle.word.specs.Laws.Choice.{of-cond, le-or-lt}
-use Rattle.exchange.specs.Memory.{part}
-use Rattle.exchange.specs.Laws.Memory.{part-same, part-splice, length-splice, word-below, word-above}
+use Rattle.exchange_package.specs.Memory.{part}
+use Rattle.exchange_package.specs.Laws.Memory.{part-same, part-splice, length-splice, word-below, word-above}
 use Rattle.machine.specs.Numbers.{processorOf}
 use Rattle.machine.specs.Machine.{Machine}
 use Rattle.machine.specs.Widths.{Kept}
@@ -17,8 +17,9 @@ use Rattle.machine.specs.Laws.Frame.{processor-kept-above, controls-other}
 use Rattle.peripheral.specs.Turn.{turnOf}
 use Rattle.peripheral.specs.Laws.Turn.{turn-keeps}
 use Rattle.peripheral.specs.Laws.Frame.{turn-other-processor}
-use Rattle.rounds.specs.Rounds.{lentTo, processorTurned, processorsTurned, centralTurnOf, ticked, roundOf, allStopped, Run, roundsOf}
-use Rattle.rounds.specs.Laws.Processors.{room, lent-kept}
+use Rattle.rounds.specs.Rounds.{centralTurnOf, ticked, roundOf, allStopped, Run, roundsOf}
+use Rattle.processors.specs.Processors.{lentTo, processorTurned, processorsTurned}
+use Rattle.processors.specs.Laws.Processors.{room, lent-kept}
 
 module _ (size n : ℕ) (h : Machine) (l : n * 4096 + 4096 ≤ size) (few : n < 10) (kept : Kept size h) where
   abbrev left : List ℕ

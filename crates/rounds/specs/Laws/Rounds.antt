@@ -9,14 +9,15 @@ use borrow.Author.Tests.{eq-eqb, ne-eqb}
 use lib.Dec.{lit≤}
 use lib.ListN.{length}
 use Rattle.word.specs.Laws.Choice.{of-cond}
-use Rattle.exchange.specs.Indexed.{allBelow}
+use Rattle.central_record.specs.Indexed.{allBelow}
 use Rattle.exchange.specs.Accepted.{HostAccepted}
 use Rattle.machine.specs.Numbers.{centralStop, clockOf}
 use Rattle.machine.specs.Machine.{Machine, machine, CentralSide}
 use Rattle.machine.specs.Widths.{Kept}
 use Rattle.machine.specs.Laws.Widths.{clock-short}
-use Rattle.rounds.specs.Rounds.{processorsTurned, centralTurnOf, ticked, roundEnded, afterProcessors, roundOf, isStopped, allStopped, Run, ran, roundsBefore, roundsOf}
-use Rattle.rounds.specs.Laws.Processors.{processors-keep, processors-length}
+use Rattle.rounds.specs.Rounds.{centralTurnOf, ticked, roundEnded, afterProcessors, roundOf, isStopped, allStopped, Run, ran, roundsBefore, roundsOf}
+use Rattle.processors.specs.Processors.{processorsTurned}
+use Rattle.processors.specs.Laws.Processors.{processors-keep, processors-length}
 use Rattle.rounds.specs.Laws.Central.{CentralKept, central-keeps, tick-wide, tick-places, tick-central}
 
 -- what the end of a round keeps

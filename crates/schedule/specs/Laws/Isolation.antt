@@ -3,16 +3,16 @@ use mathlib.Core.Path.{_≡_, sym, ap, ap₂, subst, _∙_}
 use Prim.Native.Nat.{ℕ, _<_}
 use native.Mathlib.Omega.{arith}
 use lib.ListN.{length}
-use Rattle.central.specs.declared.address.Bounds.{Bounds}
+use Rattle.field_test.specs.declared.address.Bounds.{Bounds}
 use Rattle.exchange.specs.Jump.{recordAt}
 use Rattle.exchange.specs.Laws.Jump.{record-at-fits, record-at-fits-package}
-use Rattle.exchange.specs.Laws.Memory.{length-part}
-use Rattle.exchange.specs.Laws.Package.{count-decoded, coded-decoded}
+use Rattle.exchange_package.specs.Laws.Memory.{length-part}
+use Rattle.exchange_package.specs.Laws.Package.{count-decoded, coded-decoded}
 use Rattle.exchange.specs.Accepted.{HostAccepted}
 use Rattle.exchange.specs.Laws.Verdicts.{of-package-accepted}
-use Rattle.exchange.specs.Memory.{part}
-use Rattle.exchange.specs.Package.{coded, decoded}
-use Rattle.single.specs.Laws.Field.{field-kept}
+use Rattle.exchange_package.specs.Memory.{part}
+use Rattle.exchange_package.specs.Package.{coded, decoded}
+use Rattle.stint.specs.Laws.Field.{field-kept}
 use Rattle.schedule.specs.Isolation.{Accepted, start, end, packageAddress, fieldIn, ofJob, turnsAsked, NoneButLast, StopsInLastOnly, Isolation, RestKept, RecordKept}
 use Rattle.schedule.specs.Job.{Job, jobAt, JobStint, jobStint, JobEnd, seenByJob, ownStints}
 use Rattle.schedule.specs.Laws.Projection.{projection, record-back, length-back, bounds-back, word-back}

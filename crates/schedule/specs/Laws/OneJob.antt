@@ -8,13 +8,13 @@ use lib.Dec.{ltb, leb}
 use Rattle.outcome.specs.declared.refusal.Refusal.the-variants as Refusal
 use Rattle.outcome.specs.declared.refusal.Verdict.the-variants as Call
 use Rattle.outcome.specs.declared.refusal.Verdict.{Verdict}
-use Rattle.exchange.specs.Indexed.{allBelow}
+use Rattle.central_record.specs.Indexed.{allBelow}
 use Rattle.exchange.specs.Jump.{packageVerdict, packageInside, packageClean, fieldInside}
 use Rattle.exchange.specs.Laws.Verdicts.{of-host-accepted, of-package-accepted}
-use Rattle.exchange.specs.declared.record.Central.{Central}
+use Rattle.central_record.specs.declared.record.Central.{Central}
 use Rattle.single.specs.Order.{orElse}
 use Rattle.single.specs.Program.{mostTurns, overlapVerdict, ownerVerdict, runVerdict}
-use Rattle.single.specs.Stint as Single
+use Rattle.stint.specs.Stint as Single
 use Rattle.schedule.specs.Refusals.{listsFit, jobsListed, turnsFit, listsVerdict, packageMeetsField, jobsApart, allApart, ownersVerdict, scheduleVerdict}
 use Rattle.schedule.specs.Schedule.{Schedule}
 

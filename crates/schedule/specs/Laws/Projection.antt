@@ -8,10 +8,10 @@ use borrow.Author.Tests.{eqb-true, eqb-false}
 use lib.Dec.{eqb}
 use lib.ListN.{length, getD}
 use Rattle.exchange.specs.Jump.{recordAt}
-use Rattle.exchange.specs.declared.record.Central.{Central}
-use Rattle.single.specs.Field.{boundsOf}
-use Rattle.single.specs.Laws.Stint.{stint-outside}
-use Rattle.single.specs.Stint.{StintMemory, stintOf}
+use Rattle.central_record.specs.declared.record.Central.{Central}
+use Rattle.stint.specs.Field.{boundsOf}
+use Rattle.stint.specs.Laws.Stint.{stint-outside}
+use Rattle.stint.specs.Stint.{StintMemory, stintOf}
 use Rattle.schedule.specs.Isolation.{ofJob, Outside}
 use Rattle.schedule.specs.Job.{Job, jobAt, JobStint, jobStint, JobEnd, jobStintThen, jobStints, leftAt, partOfJob}
 use Rattle.schedule.specs.Laws.Stint.{may-run, record-kept, length-kept, other-job, own-stint, bounds-kept, ra-kept, fl-kept, still-ready}

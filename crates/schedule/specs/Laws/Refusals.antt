@@ -9,13 +9,13 @@ use lib.ListN.{length, getD}
 use Rattle.outcome.specs.declared.refusal.Verdict.the-variants as Call
 use Rattle.exchange.specs.Jump.{recordAt, packageInside, packageClean, fieldInside}
 use Rattle.word.specs.Laws.Tests.{both}
-use Rattle.exchange.specs.Laws.Indexed.{all-at}
+use Rattle.central_record.specs.Laws.Indexed.{all-at}
 use Rattle.exchange.specs.Accepted.{HostAccepted, PackageAccepted}
 use Rattle.exchange.specs.Laws.Verdicts.{by-test, host-accepted}
-use Rattle.exchange.specs.Memory.{part}
-use Rattle.exchange.specs.Package.{hasStray}
-use Rattle.exchange.specs.Record.{hostVerdict}
-use Rattle.exchange.specs.declared.record.Central.{Central}
+use Rattle.exchange_package.specs.Memory.{part}
+use Rattle.exchange_package.specs.Package.{hasStray}
+use Rattle.central_record.specs.Record.{hostVerdict}
+use Rattle.central_record.specs.declared.record.Central.{Central}
 use Rattle.single.specs.Laws.Host.{both-accept}
 use Rattle.single.specs.Program.{mostTurns}
 use Rattle.schedule.specs.Isolation.{Accepted}

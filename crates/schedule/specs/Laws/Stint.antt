@@ -7,20 +7,20 @@ use native.Mathlib.Omega.{arith}
 use borrow.Author.Tests.{eqb-true, eqb-false}
 use lib.Dec.{eqb}
 use lib.ListN.{length, getD}
-use Rattle.central.specs.declared.address.Bounds.{Bounds}
+use Rattle.field_test.specs.declared.address.Bounds.{Bounds}
 use Rattle.exchange.specs.Jump.{recordAt}
-use Rattle.exchange.specs.Laws.Memory.{part-same}
-use Rattle.exchange.specs.Laws.Package.{coded-no-stray}
+use Rattle.exchange_package.specs.Laws.Memory.{part-same}
+use Rattle.exchange_package.specs.Laws.Package.{coded-no-stray}
 use Rattle.exchange.specs.Accepted.{HostAccepted}
-use Rattle.exchange.specs.Memory.{part}
-use Rattle.exchange.specs.Package.{hasStray, decoded}
-use Rattle.exchange.specs.declared.record.Central.{Central}
-use Rattle.single.specs.Field.{boundsOf}
-use Rattle.single.specs.Laws.Overlap.{apart, shares-comm}
-use Rattle.single.specs.Laws.Stint.{stint-record, stint-outside, stint-length, stint-words, stint-package, stint-field, stint-turns, stint-stop, after-fits, after-record}
-use Rattle.single.specs.Overlap.{sharesWord}
-use Rattle.single.specs.Stint as Single
-use Rattle.single.specs.Stint.{stintOf}
+use Rattle.exchange_package.specs.Memory.{part}
+use Rattle.exchange_package.specs.Package.{hasStray, decoded}
+use Rattle.central_record.specs.declared.record.Central.{Central}
+use Rattle.stint.specs.Field.{boundsOf}
+use Rattle.stint.specs.Laws.Overlap.{apart, shares-comm}
+use Rattle.stint.specs.Laws.Stint.{stint-record, stint-outside, stint-length, stint-words, stint-package, stint-field, stint-turns, stint-stop, after-fits, after-record}
+use Rattle.stint.specs.Overlap.{sharesWord}
+use Rattle.stint.specs.Stint as Single
+use Rattle.stint.specs.Stint.{stintOf}
 use Rattle.schedule.specs.Job.{jobAt, jobRun, jobAfter, jobStint, leftAt}
 use Rattle.schedule.specs.Ready.{Ready}
 

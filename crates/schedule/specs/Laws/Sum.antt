@@ -4,15 +4,15 @@ use mathlib.Core.Path.{_≡_, sym, ap, _∙_}
 use Prim.Native.Nat.{ℕ, _+_, _≤_}
 use native.Mathlib.Nat.{add-zero}
 use Rattle.central.specs.Laws.Run.{RunLeft, run-left, turns-then-turns}
-use Rattle.central.specs.State.{state}
+use Rattle.central_state.specs.State.{state}
 use Rattle.central.specs.Turn.{turnsBefore, turnsOf}
-use Rattle.central.specs.Widths.{Kept}
-use Rattle.exchange.specs.Laws.Package.{running, decoded-coded}
-use Rattle.exchange.specs.Package.{coded, decoded}
-use Rattle.exchange.specs.Record.{FitsPackage}
-use Rattle.exchange.specs.declared.record.Central.{Central}
-use Rattle.single.specs.Field.{boundsOf, recordAfter}
-use Rattle.single.specs.Laws.Field.{after-fits-package}
+use Rattle.central_state.specs.Widths.{Kept}
+use Rattle.exchange_package.specs.Laws.Package.{running, decoded-coded}
+use Rattle.exchange_package.specs.Package.{coded, decoded}
+use Rattle.central_record.specs.Record.{FitsPackage}
+use Rattle.central_record.specs.declared.record.Central.{Central}
+use Rattle.stint.specs.Field.{boundsOf, recordAfter}
+use Rattle.stint.specs.Laws.Field.{after-fits-package}
 use Rattle.schedule.specs.Isolation.{total, lastOf, NoneButLast}
 use Rattle.schedule.specs.Job.{Job, jobRun, jobAfter, JobStint, jobStint, JobEnd, jobStints}
 

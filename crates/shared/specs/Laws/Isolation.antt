@@ -7,8 +7,8 @@ use lib.ListN.{length, getD}
 use Rattle.outcome.specs.Laws.{either}
 use Rattle.outcome.specs.declared.refusal.Verdict.the-variants as Call
 use Rattle.outcome.specs.declared.refusal.Verdict.{Verdict}
-use Rattle.exchange.specs.declared.record.Central.{Central}
-use Rattle.single.specs.Stint.{stintOf}
+use Rattle.central_record.specs.declared.record.Central.{Central}
+use Rattle.stint.specs.Stint.{stintOf}
 use Rattle.schedule.specs.Isolation.{Accepted, start, packageIn, fieldIn, ofJob, total, lastOf, NoneButLast, Alike, OutsideJobs}
 use Rattle.schedule.specs.Laws.Isolation.{isolation, rest-kept, record-kept}
 use Rattle.schedule.specs.Laws.Refusals.{accepted-lists}

@@ -4,9 +4,9 @@ use mathlib.Core.Path.{_≡_, refl, _∙_}
 use Prim.Native.Nat.{ℕ}
 use Rattle.outcome.specs.declared.refusal.Verdict.the-variants as Call
 use Rattle.outcome.specs.declared.refusal.Verdict.{Verdict}
-use Rattle.exchange.specs.declared.record.Central.{Central}
+use Rattle.central_record.specs.declared.record.Central.{Central}
 use Rattle.single.specs.Program.{RunAnswered, runVerdict, runAnswerBy, runAnswer}
-use Rattle.single.specs.Stint.{stintOf}
+use Rattle.stint.specs.Stint.{stintOf}
 use Rattle.schedule.specs.Laws.OneJob.{oneJob, one-verdict}
 use Rattle.schedule.specs.Schedule.{stintsOf}
 use Rattle.shared.specs.Answer.{padded, Answered, answerTo, answerBy, scheduleAnswer}

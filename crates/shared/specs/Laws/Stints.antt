@@ -6,9 +6,9 @@ use native.Mathlib.Numerals.{add-one}
 use native.Mathlib.Omega.{arith}
 use lib.ListN.{length, getD, set, take, drop, replicate, length-set, take-append-drop, drop-of-length-le}
 use lib.Seq.{length-take-le, drop-cons, drop-drop, drop-set-lt, take-suc-set, append-snoc}
-use Rattle.exchange.specs.declared.record.Central.{Central}
-use Rattle.single.specs.Stint as Single
-use Rattle.single.specs.Stint.{StintMemory, stintOf}
+use Rattle.central_record.specs.declared.record.Central.{Central}
+use Rattle.stint.specs.Stint as Single
+use Rattle.stint.specs.Stint.{StintMemory, stintOf}
 use Rattle.schedule.specs.Laws.Stint.{may-run, length-kept, still-ready}
 use Rattle.schedule.specs.Ready.{Ready}
 use Rattle.schedule.specs.Schedule.{ScheduleEnd, stintThen, stintsOf}

@@ -9,17 +9,17 @@ use lib.Dec.{eqb}
 use lib.ListN.{length}
 use Rattle.outcome.specs.declared.refusal.Verdict.the-variants as Call
 use Rattle.outcome.specs.declared.refusal.Verdict.{Verdict}
-use Rattle.central.specs.State.{state}
+use Rattle.central_state.specs.State.{state}
 use Rattle.central.specs.Laws.Run.{turns-one}
-use Rattle.exchange.specs.Memory.{part}
-use Rattle.exchange.specs.Record.{hostVerdict}
+use Rattle.exchange_package.specs.Memory.{part}
+use Rattle.central_record.specs.Record.{hostVerdict}
 use Rattle.exchange.specs.Jump.{packageVerdict}
 use Rattle.exchange.specs.Accepted.{HostAccepted, PackageAccepted}
 use Rattle.exchange.specs.Laws.Verdicts.{host-accepted, of-host-accepted, package-accepted}
-use Rattle.exchange.specs.declared.record.Central.{Central}
+use Rattle.central_record.specs.declared.record.Central.{Central}
 use Rattle.single.specs.Order.{orElse}
-use Rattle.single.specs.Field.{boundsOf, RanMemory, ranOn}
-use Rattle.single.specs.Laws.Field.{ran-accepted}
+use Rattle.stint.specs.Field.{boundsOf, RanMemory, ranOn}
+use Rattle.stint.specs.Laws.Field.{ran-accepted}
 use Rattle.single.specs.Host.{machine, turnedOnce, exchangeVerdict}
 
 -- one turn of a running processor

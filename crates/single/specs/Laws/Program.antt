@@ -8,14 +8,14 @@ use lib.ListN.{length, getD}
 use Rattle.outcome.specs.declared.refusal.Refusal.the-variants as Because
 use Rattle.outcome.specs.declared.refusal.Verdict.the-variants as Call
 use Rattle.outcome.specs.Laws.{either}
-use Rattle.exchange.specs.Record.{hostVerdict}
+use Rattle.central_record.specs.Record.{hostVerdict}
 use Rattle.exchange.specs.Jump.{recordAt, packageVerdict}
 use Rattle.exchange.specs.Laws.Verdicts.{by-fault, host-accepted, package-accepted}
-use Rattle.exchange.specs.declared.record.Central.{Central}
-use Rattle.single.specs.Overlap.{sharesWord}
-use Rattle.single.specs.Stint.{stintOf, Accepted}
+use Rattle.central_record.specs.declared.record.Central.{Central}
+use Rattle.stint.specs.Overlap.{sharesWord}
+use Rattle.stint.specs.Stint.{stintOf, Accepted}
 use Rattle.single.specs.Program.{mostTurns, overlapVerdict, ownerVerdict, runVerdict, runAnswerBy, runAnswer}
-use Rattle.single.specs.Laws.Stint.{stint-record, stint-outside}
+use Rattle.stint.specs.Laws.Stint.{stint-record, stint-outside}
 use Rattle.single.specs.Laws.Host.{both-accept}
 
 pub accepted : (m : List ℕ) (c : Central) (at n : ℕ) → runVerdict m c at n ≡ Call.Accepted → Accepted m c at

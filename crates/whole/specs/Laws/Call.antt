@@ -11,11 +11,12 @@ use Rattle.outcome.specs.declared.refusal.Verdict.the-variants as Call
 use Rattle.machine.specs.Machine.{Machine, machine}
 use Rattle.machine.specs.Widths.{Kept}
 use Rattle.machine_record.specs.Numbers.{numbersOf, recordOf, machineOf}
-use Rattle.machine_record.specs.Verdict.{processorsIn, machineVerdict, turnVerdict, runVerdict}
-use Rattle.machine_record.specs.Laws.Verdict.{turn-accepted, run-accepted, processors-few, machine-kept, lent-again}
+use Rattle.machine_verdict.specs.Verdict.{processorsIn, machineVerdict, turnVerdict, runVerdict}
+use Rattle.machine_verdict.specs.Laws.Verdict.{turn-accepted, run-accepted, processors-few, machine-kept, lent-again}
 use Rattle.machine_record.specs.declared.record.MachineRecord.{MachineRecord}
-use Rattle.rounds.specs.Rounds.{processorTurned, ran, roundsOf}
-use Rattle.rounds.specs.Laws.Processors.{processor-keeps, own-size}
+use Rattle.rounds.specs.Rounds.{ran, roundsOf}
+use Rattle.processors.specs.Processors.{processorTurned}
+use Rattle.processors.specs.Laws.Processors.{processor-keeps, own-size}
 use Rattle.rounds.specs.Laws.Rounds.{run-keeps}
 use Rattle.whole.specs.Call.{Left, left, leftBy, leftAfter, answerBy}
 

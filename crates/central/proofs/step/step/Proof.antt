@@ -4,7 +4,7 @@ use Prim.Native.Nat.{ℕ, _+_}
 use native.Mathlib.Omega.{arith}
 use borrow.Author.Needs.{needs}
 use Rattle.central.proofs.step.step.Tie as tie
-use Rattle.instruction.specs.Laws.Effects.{decoded-fits, effect-sound}
+use Rattle.central_effect.specs.Laws.Effects.{decoded-fits, effect-sound}
 use Rattle.instruction.specs.Laws.Codes.{parcels-few}
 use Rattle.central.specs.Laws.Step.{ran-unfit, ran-cut, ran-whole}
 use Rattle.central.proofs.step.step.Statement.{statement}

@@ -4,7 +4,7 @@ use Prim.Native.Nat.{_-_}
 use native.Mathlib.Omega.{arith}
 use borrow.Author.Needs.{needs}
 use Rattle.central.proofs.turn.run_word.Tie as tie
-use Rattle.central.specs.State.{state}
+use Rattle.central_state.specs.State.{state}
 use Rattle.central.specs.Laws.Turn.{Going, going-start, going-on, going-out, going-end}
 use Rattle.central.proofs.turn.run_word.Statement.{statement}
 

@@ -2,10 +2,10 @@
 use mathlib.Core.Path.{_∙_, sym, subst}
 use borrow.Author.Needs.{needs}
 use Rattle.central.proofs.turn.turn.Tie as tie
-use Rattle.central.specs.Address.{Within}
+use Rattle.field_test.specs.Address.{Within}
 use Rattle.central.specs.Turn.{turnOf}
-use Rattle.central.specs.Laws.Widths.{place-within, inside-below}
-use Rattle.central.specs.declared.address.Place.{Place}
+use Rattle.field_test.specs.Laws.Address.{place-within, inside-below}
+use Rattle.field_test.specs.declared.address.Place.{Place}
 use Rattle.central.proofs.turn.turn.Statement.{statement}
 
 convert-requires : tie.Need-convert-requires

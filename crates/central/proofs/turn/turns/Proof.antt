@@ -3,7 +3,7 @@ use mathlib.Core.Path.{_∙_, sym}
 use Prim.Native.Nat.{_-_}
 use native.Mathlib.Omega.{arith}
 use Rattle.central.proofs.turn.turns.Tie as tie
-use Rattle.central.specs.State.{state}
+use Rattle.central_state.specs.State.{state}
 use Rattle.central.specs.Laws.Run.{Going, going-start, going-on, going-stop, going-end}
 use Rattle.central.proofs.turn.turns.Statement.{statement}
 

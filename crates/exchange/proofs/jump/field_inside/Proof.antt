@@ -1,8 +1,8 @@
 -- `exchange::jump::field_inside` meets its contract. Assumes nothing.
 use native.Mathlib.Omega.{arith}
 use borrow.Author.Needs.{needs}
-use Rattle.exchange.specs.Laws.Package.{field-width}
-use Rattle.exchange.specs.Memory.{part}
+use Rattle.exchange_package.specs.Laws.Package.{field-width}
+use Rattle.exchange_package.specs.Memory.{part}
 use Rattle.exchange.specs.Jump.{fieldInside}
 use Rattle.exchange.proofs.jump.field_inside.Statement.{statement}
 use Rattle.exchange.proofs.jump.field_inside.Tie as tie

@@ -3,8 +3,8 @@ use mathlib.Core.Path.{_≡_, refl}
 use Prim.Native.Nat.{_≤_, _-_}
 use native.Mathlib.Omega.{arith}
 use lib.ListN.{length, take, length-set}
-use Rattle.exchange.specs.Indexed.{tabulate}
-use Rattle.exchange.specs.Laws.Indexed.{tabulate-more, tabulate-all}
+use Rattle.central_record.specs.Indexed.{tabulate}
+use Rattle.central_record.specs.Laws.Indexed.{tabulate-more, tabulate-all}
 use Rattle.machine_record.specs.Numbers.{numberOf, numbersOf}
 use Rattle.machine_record.proofs.numbers.numbers_of.Statement.{statement}
 use Rattle.machine_record.proofs.numbers.numbers_of.Tie as tie

@@ -5,7 +5,7 @@ use native.Mathlib.Omega.{arith}
 use borrow.Author.Needs.{needs}
 use borrow.Author.Tests.{eq-eqb, ne-eqb}
 use mathlib.Core.Bool.{not}
-use Rattle.exchange.specs.Laws.Indexed.{Passed, none-yet, one-more, all-passed, one-fails}
+use Rattle.central_record.specs.Laws.Indexed.{Passed, none-yet, one-more, all-passed, one-fails}
 use Rattle.machine.specs.declared.numbers.Processor.{Processor}
 use Rattle.rounds.specs.Rounds.{isStopped}
 use Rattle.rounds.specs.Laws.Rounds.{central-runs, others-decide}

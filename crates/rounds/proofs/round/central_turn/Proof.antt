@@ -1,9 +1,9 @@
 -- `rounds::round::central_turn` meets its contract. Assumes nothing.
 use native.Mathlib.Omega.{arith}
-use Rattle.central.specs.State.{state}
+use Rattle.central_state.specs.State.{state}
 use Rattle.central.specs.Turn.{ran}
 use Rattle.central.specs.Laws.Place.{place-back}
-use Rattle.single.specs.Laws.Field.{field-inside, field-room, field-kept, p-short}
+use Rattle.stint.specs.Laws.Field.{field-inside, field-room, field-kept, p-short}
 use Rattle.rounds.specs.Laws.Central.{central-stopped, central-running}
 use lib.ListN.{getD}
 use borrow.Author.Needs.{needs}

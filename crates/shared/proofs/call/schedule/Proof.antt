@@ -1,7 +1,8 @@
 -- `shared::call::schedule` meets its contract. Assumes nothing.
 use mathlib.Core.Path.{_∙_, sym}
 use borrow.Author.Needs.{needs}
-use Rattle.shared.specs.Answer.{scheduleOf, scheduleAnswer}
+use Rattle.shared.specs.Answer.{scheduleAnswer}
+use Rattle.schedule.specs.Schedule.{scheduleOf}
 use Rattle.shared.specs.Laws.Answer.{may-run, accepted-answer}
 use Rattle.shared.proofs.call.schedule.Statement.{statement}
 use Rattle.shared.proofs.call.schedule.Tie as tie

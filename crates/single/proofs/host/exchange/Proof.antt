@@ -2,7 +2,7 @@
 use mathlib.Core.Path.{_∙_, sym}
 use borrow.Author.Needs.{needs}
 use Rattle.single.proofs.host.exchange.Tie as tie
-use Rattle.exchange.specs.Laws.Record.{fits}
+use Rattle.central_record.specs.Laws.Record.{fits}
 use Rattle.single.specs.Host.{exchangeAnswer}
 use Rattle.single.specs.Laws.Host.{exchange-host, exchange-owner}
 use Rattle.single.proofs.host.exchange.Statement.{statement}

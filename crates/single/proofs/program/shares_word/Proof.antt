@@ -3,7 +3,7 @@ use native.Mathlib.Omega.{arith}
 use borrow.Author.Tests.{lt-ltb, le-ltb}
 use borrow.Author.Needs.{needs}
 use Rattle.single.proofs.program.shares_word.Tie as tie
-use Rattle.single.specs.Overlap.{sharesWord}
+use Rattle.stint.specs.Overlap.{sharesWord}
 use Rattle.single.proofs.program.shares_word.Statement.{statement}
 
 returns : tie.Need-returns

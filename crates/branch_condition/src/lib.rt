@@ -1,0 +1,2 @@
+// The conditions of the central processor's branches.
+pub mod conditions;

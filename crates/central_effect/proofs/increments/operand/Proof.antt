@@ -1,0 +1,156 @@
+-- `central_effect::increments::operand` meets its contract. Assumes nothing.
+use borrow.Author.Needs.{needs}
+use Rattle.word.proofs.Match.{last-arm}
+use Rattle.central_effect.proofs.increments.operand.Tie as tie
+use Rattle.central_effect.specs.Effects.{operandOf}
+use Rattle.central_effect.proofs.increments.operand.Statement.{statement}
+
+a-of-requires : tie.Need-a-of-requires
+a-of-requires c κs = search needs
+
+sum18-requires : tie.Need-sum18-requires
+sum18-requires c κs = search needs
+
+b-of-requires : tie.Need-b-of-requires
+b-of-requires c κs = search needs
+
+sum18-requires-2 : tie.Need-sum18-requires-2
+sum18-requires-2 c κs = search needs
+
+x-of-requires : tie.Need-x-of-requires
+x-of-requires c κs = search needs
+
+low18-requires : tie.Need-low18-requires
+low18-requires c κs = search needs
+
+sum18-requires-3 : tie.Need-sum18-requires-3
+sum18-requires-3 c κs = search needs
+
+x-of-requires-2 : tie.Need-x-of-requires-2
+x-of-requires-2 c κs = search needs
+
+low18-requires-2 : tie.Need-low18-requires-2
+low18-requires-2 c κs = search needs
+
+b-of-requires-2 : tie.Need-b-of-requires-2
+b-of-requires-2 c κs = search needs
+
+sum18-requires-4 : tie.Need-sum18-requires-4
+sum18-requires-4 c κs = search needs
+
+a-of-requires-2 : tie.Need-a-of-requires-2
+a-of-requires-2 c κs = search needs
+
+b-of-requires-3 : tie.Need-b-of-requires-3
+b-of-requires-3 c κs = search needs
+
+sum18-requires-5 : tie.Need-sum18-requires-5
+sum18-requires-5 c κs = search needs
+
+a-of-requires-3 : tie.Need-a-of-requires-3
+a-of-requires-3 c κs = search needs
+
+b-of-requires-4 : tie.Need-b-of-requires-4
+b-of-requires-4 c κs = search needs
+
+difference18-requires : tie.Need-difference18-requires
+difference18-requires c κs = search needs
+
+b-of-requires-5 : tie.Need-b-of-requires-5
+b-of-requires-5 c κs = search needs
+
+b-of-requires-6 : tie.Need-b-of-requires-6
+b-of-requires-6 c κs = search needs
+
+sum18-requires-6 : tie.Need-sum18-requires-6
+sum18-requires-6 c κs = search needs
+
+b-of-requires-7 : tie.Need-b-of-requires-7
+b-of-requires-7 c κs = search needs
+
+b-of-requires-8 : tie.Need-b-of-requires-8
+b-of-requires-8 c κs = search needs
+
+difference18-requires-2 : tie.Need-difference18-requires-2
+difference18-requires-2 c κs = search needs
+
+returns : tie.Need-returns
+unfolding operandOf
+returns c = rw (c .before .before .match .keys1, c .sum18 .ensures, c .before .a-of .ensures .is)
+
+returns-2 : tie.Need-returns-2
+unfolding operandOf
+returns-2 c = rw (c .before .before .match .keys2, c .sum182 .ensures, c .before .b-of .ensures .is)
+
+returns-3 : tie.Need-returns-3
+unfolding operandOf
+returns-3 c = rw (c .before .before .before .match .keys3, c .sum183 .ensures, c .before .low18 .ensures, c .before .before .x-of .ensures .is)
+
+returns-4 : tie.Need-returns-4
+unfolding operandOf
+returns-4 c =
+    let match = c .before .before .before .before .match in
+    let x-of2 = c .before .before .before .x-of2 in
+    let low182 = c .before .before .low182 in
+    let b-of2 = c .before .b-of2 in
+    rw (match .keys4, c .sum184 .ensures, low182 .ensures, b-of2 .ensures .is, x-of2 .ensures .is)
+
+returns-5 : tie.Need-returns-5
+unfolding operandOf
+returns-5 c = rw (c .before .before .before .match .keys5, c .sum185 .ensures, c .before .b-of3 .ensures .is, c .before .before .a-of2 .ensures .is)
+
+returns-6 : tie.Need-returns-6
+unfolding operandOf
+returns-6 c =
+    let match = c .before .before .before .match in
+    let a-of3 = c .before .before .a-of3 in
+    let b-of4 = c .before .b-of4 in
+    rw (match .keys6, c .difference18 .ensures, b-of4 .ensures .is, a-of3 .ensures .is)
+
+returns-7 : tie.Need-returns-7
+unfolding operandOf
+returns-7 c = rw (c .before .before .before .match .keys7, c .sum186 .ensures, c .before .b-of6 .ensures .is, c .before .before .b-of5 .ensures .is)
+
+returns-8 : tie.Need-returns-8
+unfolding operandOf
+returns-8 c =
+    let match = c .before .before .before .match in
+    let b-of7 = c .before .before .b-of7 in
+    let b-of8 = c .before .b-of8 in
+    rw (last-arm 7 _ (search needs) (match .rest), c .difference182 .ensures, b-of8 .ensures .is, b-of7 .ensures .is)
+
+pub operand-spec : {M : Type 1} → statement M
+operand-spec =
+    tie.close
+    (tie.spec
+    a-of-requires
+    sum18-requires
+    b-of-requires
+    sum18-requires-2
+    x-of-requires
+    low18-requires
+    sum18-requires-3
+    x-of-requires-2
+    low18-requires-2
+    b-of-requires-2
+    sum18-requires-4
+    a-of-requires-2
+    b-of-requires-3
+    sum18-requires-5
+    a-of-requires-3
+    b-of-requires-4
+    difference18-requires
+    b-of-requires-5
+    b-of-requires-6
+    sum18-requires-6
+    b-of-requires-7
+    b-of-requires-8
+    difference18-requires-2
+    returns
+    returns-2
+    returns-3
+    returns-4
+    returns-5
+    returns-6
+    returns-7
+    returns-8)

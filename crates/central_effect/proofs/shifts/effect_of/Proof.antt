@@ -1,0 +1,123 @@
+-- `central_effect::shifts::effect_of` meets its contract. Assumes nothing.
+use borrow.Author.Needs.{needs}
+use Rattle.word.proofs.Match.{last-arm}
+use Rattle.central_effect.proofs.shifts.effect_of.Tie as tie
+use Rattle.central_effect.specs.Effects.{shiftOf}
+use Rattle.central_effect.proofs.shifts.effect_of.Statement.{statement}
+
+x-of-requires : tie.Need-x-of-requires
+x-of-requires c κs = search needs
+
+rotate-left60-requires : tie.Need-rotate-left60-requires
+rotate-left60-requires c κs = search needs
+
+x-of-requires-2 : tie.Need-x-of-requires-2
+x-of-requires-2 c κs = search needs
+
+shift-right60-requires : tie.Need-shift-right60-requires
+shift-right60-requires c κs = search needs
+
+b-of-requires : tie.Need-b-of-requires
+b-of-requires c κs = search needs
+
+x-of-requires-3 : tie.Need-x-of-requires-3
+x-of-requires-3 c κs = search needs
+
+nominal-left-requires : tie.Need-nominal-left-requires
+nominal-left-requires c κs = search needs
+
+b-of-requires-2 : tie.Need-b-of-requires-2
+b-of-requires-2 c κs = search needs
+
+x-of-requires-4 : tie.Need-x-of-requires-4
+x-of-requires-4 c κs = search needs
+
+nominal-right-requires : tie.Need-nominal-right-requires
+nominal-right-requires c κs = search needs
+
+x-of-requires-5 : tie.Need-x-of-requires-5
+x-of-requires-5 c κs = search needs
+
+unpack-to-requires : tie.Need-unpack-to-requires
+unpack-to-requires c κs = search needs
+
+b-of-requires-3 : tie.Need-b-of-requires-3
+b-of-requires-3 c κs = search needs
+
+x-of-requires-6 : tie.Need-x-of-requires-6
+x-of-requires-6 c κs = search needs
+
+pack-requires : tie.Need-pack-requires
+pack-requires c κs = search needs
+
+returns : tie.Need-returns
+unfolding shiftOf
+returns c = rw (c .before .before .match .keys1, c .rotate-left60 .ensures, c .before .x-of .ensures .is)
+
+returns-2 : tie.Need-returns-2
+unfolding shiftOf
+returns-2 c = rw (c .before .before .match .keys2, c .shift-right60 .ensures, c .before .x-of2 .ensures .is)
+
+returns-3 : tie.Need-returns-3
+unfolding shiftOf
+returns-3 c =
+    let match = c .before .before .before .match in
+    let b-of = c .before .before .b-of in
+    let x-of3 = c .before .x-of3 in
+    rw (match .keys3, c .nominal-left .ensures, b-of .ensures .is, x-of3 .ensures .is)
+
+returns-4 : tie.Need-returns-4
+unfolding shiftOf
+returns-4 c =
+    let match = c .before .before .before .match in
+    let b-of2 = c .before .before .b-of2 in
+    let x-of4 = c .before .x-of4 in
+    rw (match .keys4, c .nominal-right .ensures, b-of2 .ensures .is, x-of4 .ensures .is)
+
+returns-5 : tie.Need-returns-5
+unfolding shiftOf
+returns-5 c = rw (c .match .keys5)
+
+returns-6 : tie.Need-returns-6
+unfolding shiftOf
+returns-6 c = rw (c .match .keys6)
+
+returns-7 : tie.Need-returns-7
+unfolding shiftOf
+returns-7 c = rw (c .before .before .match .keys7, c .unpack-to .ensures, c .before .x-of5 .ensures .is)
+
+returns-8 : tie.Need-returns-8
+unfolding shiftOf
+returns-8 c =
+    let match = c .before .before .before .match in
+    let b-of3 = c .before .before .b-of3 in
+    let x-of6 = c .before .x-of6 in
+    rw (last-arm 7 _ (search needs) (match .rest), c .pack .ensures, b-of3 .ensures .is, x-of6 .ensures .is)
+
+pub effect-of-spec : {M : Type 1} → statement M
+effect-of-spec =
+    tie.close
+    (tie.spec
+    x-of-requires
+    rotate-left60-requires
+    x-of-requires-2
+    shift-right60-requires
+    b-of-requires
+    x-of-requires-3
+    nominal-left-requires
+    b-of-requires-2
+    x-of-requires-4
+    nominal-right-requires
+    x-of-requires-5
+    unpack-to-requires
+    b-of-requires-3
+    x-of-requires-6
+    pack-requires
+    returns
+    returns-2
+    returns-3
+    returns-4
+    returns-5
+    returns-6
+    returns-7
+    returns-8)

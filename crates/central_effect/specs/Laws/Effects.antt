@@ -1,0 +1,145 @@
+-- Instructions have parts of their widths, and their effects name registers that are there and values of their widths. Assumes nothing.
+use mathlib.Core.Bool.{Bool, true, false}
+use mathlib.Core.List.{List}
+use Prim.Native.Nat.{ℕ, _+_, _/_, _%_, _^_, _<_}
+use native.Mathlib.Omega.{arith}
+use lib.Dec.{eqb, ltb, lit<, lit≤}
+use Rattle.word.specs.Bits.{low}
+use Rattle.branch_condition.specs.Conditions.{wordCondition, comparison}
+use Rattle.word_fields.specs.Fields.{parcel}
+use Rattle.word.specs.Laws.Bits.{bits-lt}
+use Rattle.word.specs.Laws.Choice.{of-cond, of-getD}
+use Rattle.word.specs.Laws.Logic.{logical-lt}
+use Rattle.word.specs.Laws.Sums.{sum-lt, difference-lt, extend-lt}
+use Rattle.shift.specs.Laws.Floating.{coefficient-lt, exponent-lt, packed-lt}
+use Rattle.shift.specs.Laws.Rotation.{rotate-lt}
+use Rattle.shift.specs.Laws.Shifts.{mask-lt, signed-lt, nominal-left-lt, nominal-right-lt, count-le}
+use Rattle.instruction.specs.Registers.{aOf, bOf, xOf}
+use Rattle.instruction.specs.Instruction.{constantAt, decoded}
+use Rattle.central_effect.specs.Effects.{jumpIf, firstBranches, branchOf, unpackTo, shifts, leftOut, shiftOf, sumOf, maskOrCountOf, operands, operandOf, rows, effectOf}
+use Rattle.instruction.specs.Widths.{Wide, Fit}
+use Rattle.central_effect.specs.Sound.{Sound}
+use Rattle.instruction.specs.declared.instruction.Instruction.{Instruction}
+
+constant-lt : (w place : ℕ) → constantAt w place < 2 ^ 18
+unfolding constantAt
+constant-lt w place = of-cond (λ (k : ℕ). k < 2 ^ 18) (ltb place 3) (λ e. bits-lt w _ 18) (λ e. lit< tt)
+
+pub decoded-fits : (w place : ℕ) → Fit (decoded w place)
+unfolding decoded
+decoded-fits w place =
+    record {
+      code = bits-lt (parcel w place) 9 6;
+      i = bits-lt (parcel w place) 6 3;
+      j = bits-lt (parcel w place) 3 3;
+      k = bits-lt (parcel w place) 0 3;
+      jk = bits-lt (parcel w place) 0 6;
+      constant = constant-lt w place;
+    }
+
+module _ (r : List ℕ) (q : Instruction) (w : Wide r) (f : Fit q) where
+  a-lt : (i : ℕ) → i < 8 → aOf r i < 2 ^ 18
+  a-lt i h = w .short i (omega arith)
+
+  b-lt : (i : ℕ) → i < 8 → bOf r i < 2 ^ 18
+  b-lt i h = w .short (8 + i) (omega arith)
+
+  x-lt : (i : ℕ) → xOf r i < 2 ^ 60
+  x-lt i = w .long (16 + i)
+
+  pub operand-lt : (m : ℕ) → operandOf r q m < 2 ^ 18
+  unfolding operandOf
+  operand-lt m =
+      let aj = a-lt (q .j) (f .j) in
+      let bj = b-lt (q .j) (f .j) in
+      let bk = b-lt (q .k) (f .k) in
+      let xj : low 18 (xOf r (q .j)) < 2 ^ 18 = omega arith in
+      of-getD (λ (v : ℕ). v < 2 ^ 18) (operands r q) m 0 (
+        sum-lt 18 _ _ aj (f .constant),
+        (
+          sum-lt 18 _ _ bj (f .constant),
+          (
+            sum-lt 18 _ _ xj (f .constant),
+            (
+              sum-lt 18 _ _ xj bk,
+              (sum-lt 18 _ _ aj bk, (difference-lt 18 _ _ aj, (sum-lt 18 _ _ bj bk, (difference-lt 18 _ _ bj, tt)))),
+            ),
+          ),
+        ),
+      )
+      (lit< tt)
+
+  jump-sound : (t : Bool) → Sound (jumpIf t (q .constant))
+  jump-sound true = f .constant
+  jump-sound false = tt
+
+  branch-sound : (m p : ℕ) → p < 131072 → Sound (branchOf r q m p)
+  unfolding branchOf
+  branch-sound m p h =
+      of-getD Sound (firstBranches r q p) m _ (
+        tt,
+        (
+          (f .constant, omega arith),
+          (sum-lt 18 _ _ (b-lt (q .i) (f .i)) (f .constant), (jump-sound (wordCondition (q .i) (xOf r (q .j))), tt)),
+        ),
+      )
+      (jump-sound (comparison m (bOf r (q .i)) (bOf r (q .j))))
+
+  unpack-sound : (i j x : ℕ) → i < 8 → j < 8 → x < 2 ^ 60 → Sound (unpackTo i j x)
+  unfolding unpackTo
+  unpack-sound i j x hi hj h = ((hi, coefficient-lt x), (hj, exponent-lt x h))
+
+  shift-sound : (m : ℕ) → Sound (shiftOf r q m)
+  unfolding shiftOf
+  shift-sound m =
+      let xi = x-lt (q .i) in
+      let xk = x-lt (q .k) in
+      of-getD Sound (shifts r q) m leftOut (
+        (f .i, rotate-lt 60 _ _ (lit< tt) xi),
+        (
+          (f .i, signed-lt 60 _ _ xi),
+          (
+            (f .i, nominal-left-lt _ _ xk),
+            ((f .i, nominal-right-lt _ _ xk), (tt, (tt, (unpack-sound _ _ _ (f .i) (f .j) xk, ((f .i, packed-lt _ _), tt))))),
+          ),
+        ),
+      )
+      tt
+
+  sum-sound : (m : ℕ) → Sound (sumOf r q m)
+  unfolding sumOf
+  sum-sound m =
+      of-cond Sound (eqb m 6) (λ e. (f .i, sum-lt 60 _ _ (x-lt (q .j)) (x-lt (q .k))))
+      (λ e. of-cond Sound (eqb m 7) (λ e. (f .i, difference-lt 60 _ _ (x-lt (q .j)))) (λ e. tt))
+
+  mask-or-count-sound : (m : ℕ) → Sound (maskOrCountOf r q m)
+  unfolding maskOrCountOf
+  mask-or-count-sound m =
+      of-cond Sound (eqb m 3) (λ e. (f .i, mask-lt 60 _))
+      (λ e. of-cond Sound (eqb m 6) (λ e. tt)
+      (λ e. of-cond Sound (eqb m 7) (λ e. (f .i, omega (arith, count-le 60 _ (x-lt (q .k))))) (λ e. tt)))
+
+  pub effect-sound : (p : ℕ) → p < 131072 → Sound (effectOf r q p)
+  unfolding effectOf
+  effect-sound p h =
+      let m = q .code % 8 in
+      of-getD Sound (rows r q m p) (q .code / 8) leftOut (
+        branch-sound m p h,
+        (
+          (f .i, logical-lt m _ _ (x-lt (q .j)) (x-lt (q .k))),
+          (
+            shift-sound m,
+            (
+              sum-sound m,
+              (
+                mask-or-count-sound m,
+                (
+                  (f .i, operand-lt m),
+                  ((f .i, operand-lt m), ((f .i, extend-lt 18 60 _ (lit≤ tt) (operand-lt m)), tt)),
+                ),
+              ),
+            ),
+          ),
+        ),
+      )
+      tt

@@ -1,0 +1,118 @@
+// The only code that writes registers or the field.
+ghost use mathlib.Core.Path.{_≡_};
+ghost use Prim.Native.Nat.{_^_, _<_, _≤_};
+ghost use Rattle.central_effect.specs.Sound.{Sound};
+ghost use Rattle.central_state.specs.State.{state};
+ghost use Rattle.field_test.specs.Address.{Within};
+ghost use Rattle.central_state.specs.Apply.{after, referred, aSet, stored, returnJumped, applied};
+ghost use Rattle.central_state.specs.Widths.{Lent};
+use central_effect::effect::Effect;
+use field_test::address::Bounds;
+use field_test::address::Place;
+use field_test::address::Relative;
+use field_test::address::convert;
+use field_test::address::index;
+use instruction::registers::set_b;
+use instruction::registers::set_x;
+use outcome::stop::CentralStop;
+
+// What follows an instruction.
+pub enum Step {
+    // The place of the next parcel.
+    Next(u64),
+    // The new P.
+    Branch(u64),
+    Stop(CentralStop),
+}
+
+// EM bit 010000, which is bit 12.
+const ADDRESS_BIT: u64 = 12;
+
+// A1 to A7 was set: the read into Xi, or the store of Xi. Outside the field a read gives zero and a store is dropped, or,
+// with the EM bit, nothing changes.
+fn refer(r: &mut [u64; 24], f: &mut [u64], b: Bounds, i: usize, p: Place, next: u64) -> Step
+    requires { ⌜ (1 ≤ i) × (i < 8) ⌝ }
+    requires { ⌜ Lent b (now f) ⌝ }
+    requires { ⌜ Within b p ⌝ }
+    ensures { λ o. ⌜ after (now (r .exit)) (now (f .exit)) o ≡ referred (state (now (r .entry)) (now (f .entry))) b i p next ⌝ }
+{
+    match p {
+        Place::Inside(a) => {
+            let n = index(b, a);
+            if i < 6 {
+                set_x(&mut *r, i, f[n]);
+            } else {
+                f[n] = r[16 + i];
+            }
+            Step::Next(next)
+        }
+        Place::Outside => {
+            // Stop 2: operand outside the field with EM bit 010000.
+            if (b.em >> ADDRESS_BIT) & 1 == 1 {
+                return Step::Stop(CentralStop::OperandOutside);
+            }
+            if i < 6 {
+                set_x(&mut *r, i, 0);
+            }
+            Step::Next(next)
+        }
+    }
+}
+
+// A is set in all cases, and all of its 18 bits go into the field test.
+fn set_a(r: &mut [u64; 24], f: &mut [u64], b: Bounds, i: usize, v: u64, next: u64) -> Step
+    requires { ⌜ i < 8 ⌝ }
+    requires { ⌜ Lent b (now f) ⌝ }
+    ensures { λ o. ⌜ after (now (r .exit)) (now (f .exit)) o ≡ aSet (state (now (r .entry)) (now (f .entry))) b i v next ⌝ }
+{
+    r[i] = v;
+    if i == 0 {
+        return Step::Next(next);
+    }
+    let p = convert(b, Relative(v));
+    refer(&mut *r, &mut *f, b, i, p, next)
+}
+
+// 010: nothing is written where the target is outside the field.
+fn return_jump(f: &mut [u64], b: Bounds, target: u64, word: u64) -> Step
+    requires { ⌜ Lent b (now f) ⌝ }
+    requires { ⌜ target < 2 ^ 18 ⌝ }
+    ensures { λ o. ⌜ stored (now (f .exit)) o ≡ returnJumped (now (f .entry)) b target word ⌝ }
+{
+    match convert(b, Relative(target)) {
+        Place::Inside(a) => {
+            let n = index(b, a);
+            f[n] = word;
+            Step::Branch(target + 1)
+        }
+        Place::Outside => Step::Stop(CentralStop::FetchOutside),
+    }
+}
+
+// The effect e, and what follows it; next is the place after the instruction.
+pub fn apply(r: &mut [u64; 24], f: &mut [u64], b: Bounds, e: Effect, next: u64) -> Step
+    requires { ⌜ Lent b (now f) ⌝ }
+    requires { ⌜ Sound e ⌝ }
+    ensures { λ o. ⌜ after (now (r .exit)) (now (f .exit)) o ≡ applied (state (now (r .entry)) (now (f .entry))) b e next ⌝ }
+{
+    match e {
+        Effect::Pass => Step::Next(next),
+        Effect::Stop(s) => Step::Stop(s),
+        Effect::Jump(p) => Step::Branch(p),
+        Effect::ReturnJump(k, w) => return_jump(&mut *f, b, k, w),
+        Effect::SetA(i, v) => set_a(&mut *r, &mut *f, b, i, v, next),
+        Effect::SetB(i, v) => {
+            set_b(&mut *r, i, v);
+            Step::Next(next)
+        }
+        Effect::SetX(i, v) => {
+            set_x(&mut *r, i, v);
+            Step::Next(next)
+        }
+        Effect::SetXB(i, v, j, e) => {
+            set_x(&mut *r, i, v);
+            set_b(&mut *r, j, e);
+            Step::Next(next)
+        }
+    }
+}

@@ -1,0 +1,2 @@
+// What an effect does to the registers and the field, both lent.
+pub mod apply;

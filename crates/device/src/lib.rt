@@ -1,0 +1,2 @@
+// The device calls.
+pub mod calls;

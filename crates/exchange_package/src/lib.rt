@@ -1,0 +1,2 @@
+// The exchange package of a central record.
+pub mod package;

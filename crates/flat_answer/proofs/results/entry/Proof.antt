@@ -1,0 +1,21 @@
+-- `flat_answer::results::entry` meets its contract. Assumes nothing.
+use mathlib.Core.Path.{sym}
+use borrow.Author.Needs.{needs}
+use lib.ListN.{List·getD-eq-default}
+use Rattle.flat_answer.proofs.results.entry.Statement.{statement}
+use Rattle.flat_answer.proofs.results.entry.Tie as tie
+
+mul-result : tie.Need-mul-result
+mul-result c = search needs
+
+shared-slice-read-result : tie.Need-shared-slice-read-result
+shared-slice-read-result c = search needs
+
+returns : tie.Need-returns
+returns c = search needs
+
+returns-2 : tie.Need-returns-2
+returns-2 c = sym (List·getD-eq-default (c .before .args .list .now) 0 (c .if1 .left))
+
+pub entry-spec : {M : Type 1} → statement M
+entry-spec = tie.close (tie.spec mul-result shared-slice-read-result returns returns-2)

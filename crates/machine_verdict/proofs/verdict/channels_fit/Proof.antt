@@ -1,0 +1,66 @@
+-- `machine_verdict::verdict::channels_fit` meets its contract. Assumes nothing.
+use Prim.Native.Nat.{_-_, _^_}
+use native.Mathlib.Omega.{arith}
+use borrow.Author.Tests.{lt-ltb, le-ltb}
+use Rattle.central_record.specs.Laws.Indexed.{Passed, none-yet, one-more, all-passed, one-fails}
+use Rattle.machine_record.specs.Record.{channelAt, channelFitsAt, channelsFit}
+use Rattle.machine_verdict.proofs.verdict.channels_fit.Statement.{statement}
+use Rattle.machine_verdict.proofs.verdict.channels_fit.Tie as tie
+
+abbrev Inv-loop : tie.InvT-loop
+Inv-loop channels i₀ i = Passed (channelFitsAt channels) 12 i
+
+abbrev μ-loop : tie.MeasureT-loop
+μ-loop channels i₀ i = 12 - i
+
+loop-holds : tie.Need-loop-holds Inv-loop μ-loop
+loop-holds c = none-yet _ _
+
+mul-c : tie.Need-mul-c Inv-loop μ-loop
+mul-c c = omega arith
+
+array-copy-out-c : tie.Need-array-copy-out-c Inv-loop μ-loop
+array-copy-out-c c = omega arith
+
+returns : tie.Need-returns Inv-loop μ-loop
+unfolding channelsFit
+returns c =
+    let l = c .before .before .before .before .before .args .t1 in
+    let i = c .before .before .before .before .loop .i in
+    one-fails (channelFitsAt l) 12 i
+    (c .before .before .before .loop-test .taken)
+    (le-ltb (channelAt l i .word) (2 ^ 12) (omega arith))
+
+add-i : tie.Need-add-i Inv-loop μ-loop
+add-i c = omega arith
+
+loop-less : tie.Need-loop-less Inv-loop μ-loop
+loop-less c = omega arith
+
+loop-again : tie.Need-loop-again Inv-loop μ-loop
+loop-again c =
+    let l = c .before .before .before .before .before .args .t1 in
+    let i = c .before .before .before .before .loop .i in
+    one-more (channelFitsAt l) 12 i
+    (c .before .before .before .before .loop .inv)
+    (c .before .before .before .loop-test .taken)
+    (lt-ltb (channelAt l i .word) (2 ^ 12) (omega arith))
+
+returns-2 : tie.Need-returns-2 Inv-loop μ-loop
+unfolding channelsFit
+returns-2 c = all-passed _ _ _ (c .before .loop .inv) (c .loop-test .left)
+
+pub channels-fit-spec : {M : Type 1} → statement M
+channels-fit-spec =
+    tie.close
+    (tie.spec
+    Inv-loop
+    μ-loop
+    loop-holds
+    mul-c
+    array-copy-out-c
+    returns
+    add-i
+    loop-less
+    loop-again
+    returns-2)

@@ -1,0 +1,3 @@
+-- Consequences of the definitions. Assumes nothing.
+pub mod Bytes
+pub mod Decimal

@@ -1,0 +1,2 @@
+// One line of an answer, written into a lent buffer.
+pub mod pieces;

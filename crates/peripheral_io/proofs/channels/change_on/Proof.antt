@@ -1,0 +1,23 @@
+-- `peripheral_io::channels::change_on` meets its contract. Assumes nothing.
+use borrow.Author.Tests.{lt-ltb, le-ltb}
+use borrow.Author.Needs.{needs}
+use Rattle.peripheral_io.proofs.channels.change_on.Tie as tie
+use Rattle.peripheral_io.specs.Channels.{changeOn}
+use Rattle.peripheral_io.proofs.channels.change_on.Statement.{statement}
+
+channel-of-requires : tie.Need-channel-of-requires
+channel-of-requires c κs = search needs
+
+change-of-requires : tie.Need-change-of-requires
+change-of-requires c κs = search needs
+
+returns : tie.Need-returns
+unfolding changeOn
+returns c = rw (lt-ltb _ 12 (c .before .before .if1 .taken), c .change-of .ensures, c .before .channel-of .ensures)
+
+returns-2 : tie.Need-returns-2
+unfolding changeOn
+returns-2 c = rw (le-ltb _ 12 (c .if1 .left))
+
+pub change-on-spec : {M : Type 1} → statement M
+change-on-spec = tie.close (tie.spec channel-of-requires change-of-requires returns returns-2)

@@ -1,0 +1,70 @@
+-- `processors::processors::processors_turn` meets its contract. Assumes nothing.
+use mathlib.Core.Path.{sym, _∙_}
+use native.Mathlib.Omega.{arith}
+use Rattle.machine.specs.Machine.{machine}
+use Rattle.processors.specs.Laws.Processors.{own-size, Going, going-start, going-on, going-end}
+use Rattle.processors.proofs.processors.processors_turn.Statement.{statement}
+use Rattle.processors.proofs.processors.processors_turn.Tie as tie
+
+abbrev Inv-loop : tie.InvT-loop
+Inv-loop m₀ c₀ x₀ s₀ k left₀ m c x s left = Going k (machine m₀ c₀ x₀ s₀) (machine m c x s) left
+
+abbrev μ-loop : tie.MeasureT-loop
+μ-loop m₀ c₀ x₀ s₀ k left₀ m c x s left = left
+
+loop-holds : tie.Need-loop-holds Inv-loop μ-loop
+loop-holds c = going-start _ (machine _ _ _ _) (c .before .before .pre .0)
+
+sub-processor-turn : tie.Need-sub-processor-turn Inv-loop μ-loop
+sub-processor-turn c = omega (arith, c .before .before .before .before .loop-test .taken, c .before .before .before .before .before .loop .inv .most)
+
+processor-turn-requires : tie.Need-processor-turn-requires Inv-loop μ-loop
+processor-turn-requires c κs =
+    let pre = c .before .before .before .before .before .before .before .before .pre in
+    let loop = c .before .before .before .before .before .loop in
+    let loop-test = c .before .before .before .before .loop-test in (
+      own-size _ (machine _ _ _ _) (loop .inv .kept),
+      (
+        omega (arith, loop-test .taken, loop .inv .most, loop .inv .kept .size),
+        omega (arith, loop-test .taken, loop .inv .most, pre .1),
+      ),
+    )
+
+sub-left : tie.Need-sub-left Inv-loop μ-loop
+sub-left c = omega (arith, c .before .before .before .before .before .before .before .before .before .loop-test .taken)
+
+loop-less : tie.Need-loop-less Inv-loop μ-loop
+loop-less c = omega (arith, c .before .before .before .before .before .before .before .before .before .loop-test .taken)
+
+loop-again : tie.Need-loop-again Inv-loop μ-loop
+loop-again c =
+    let pre = c .before .before .before .before .before .before .before .before .before .before .before .before .before .pre in
+    let loop = c .before .before .before .before .before .before .before .before .before .before .loop in
+    let loop-test = c .before .before .before .before .before .before .before .before .before .loop-test in
+    let processor-turn = c .before .before .before .before .processor-turn in
+    going-on _ (machine _ _ _ _) (machine _ _ _ _) _ (loop .inv) (pre .1) (loop-test .taken) (machine _ _ _ _) (processor-turn .ensures)
+
+same-length : tie.Need-same-length Inv-loop μ-loop
+same-length c = c .before .loop .inv .kept .size ∙ sym (c .before .before .before .before .pre .0 .size)
+
+same-length-2 : tie.Need-same-length-2 Inv-loop μ-loop
+same-length-2 c = c .before .loop .inv .long
+
+returns : tie.Need-returns Inv-loop μ-loop
+returns c = going-end _ (machine _ _ _ _) (machine _ _ _ _) _ (c .before .loop .inv) (c .loop-test .left)
+
+pub processors-turn-spec : {M : Type 1} → statement M
+processors-turn-spec =
+    tie.close
+    (tie.spec
+    Inv-loop
+    μ-loop
+    loop-holds
+    sub-processor-turn
+    processor-turn-requires
+    sub-left
+    loop-less
+    loop-again
+    same-length
+    same-length-2
+    returns)

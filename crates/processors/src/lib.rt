@@ -1,0 +1,2 @@
+// Turns of all peripheral processors, each on its own memory.
+pub mod processors;

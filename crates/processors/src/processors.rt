@@ -1,0 +1,34 @@
+// Turns of the peripheral processors, each on its own memory.
+ghost use mathlib.Core.Path.{_≡_};
+ghost use Prim.Native.Nat.{_+_, _*_, _<_, _≤_};
+ghost use lib.ListN.{length};
+ghost use Rattle.machine.specs.Machine.{machine};
+ghost use Rattle.machine.specs.Widths.{Kept};
+ghost use Rattle.processors.specs.Processors.{processorTurned, processorsTurned};
+use peripheral::turn::turn;
+
+// Processor n: its own 4,096 words alone are lent to its turn.
+pub fn processor_turn(m: &mut [u16], c: &mut [u64], x: &mut [u64; 24], s: &mut [u64; 84], n: usize)
+    requires { ⌜ Kept (length (now m)) (machine (now m) (now c) (now x) (now s)) ⌝ }
+    requires { ⌜ (n * 4096 + 4096 ≤ length (now m)) × (n < 10) ⌝ }
+    ensures { λ o. ⌜ machine (now (m .exit)) (now (c .exit)) (now (x .exit)) (now (s .exit))
+        ≡ processorTurned (machine (now (m .entry)) (now (c .entry)) (now (x .entry)) (now (s .entry))) n ⌝ }
+{
+    let start = n * 4096;
+    let end = start + 4096;
+    turn(&mut m[start..end], &mut *c, &mut *x, &mut *s, n);
+}
+
+// All k processors, in rising number.
+pub fn processors_turn(m: &mut [u16], c: &mut [u64], x: &mut [u64; 24], s: &mut [u64; 84], k: usize)
+    requires { ⌜ Kept (k * 4096) (machine (now m) (now c) (now x) (now s)) ⌝ }
+    requires { ⌜ k ≤ 10 ⌝ }
+    ensures { λ o. ⌜ machine (now (m .exit)) (now (c .exit)) (now (x .exit)) (now (s .exit))
+        ≡ processorsTurned k 0 (machine (now (m .entry)) (now (c .entry)) (now (x .entry)) (now (s .entry))) ⌝ }
+{
+    let mut left = k;
+    while 0 < left {
+        processor_turn(&mut *m, &mut *c, &mut *x, &mut *s, k - left);
+        left = left - 1;
+    }
+}

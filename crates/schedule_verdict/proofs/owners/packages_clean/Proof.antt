@@ -1,0 +1,67 @@
+-- `schedule_verdict::owners::packages_clean` meets its contract. Assumes nothing.
+use mathlib.Core.Bool.{not}
+use mathlib.Core.Path.{sym, _∙_, ap}
+use Prim.Native.Nat.{_-_}
+use native.Mathlib.Omega.{arith}
+use borrow.Author.Needs.{needs}
+use lib.ListN.{length, getD}
+use Rattle.central_record.specs.Laws.Indexed.{Passed, none-yet, one-more, all-passed, one-fails}
+use Rattle.exchange.specs.Jump.{packageClean}
+use Rattle.schedule_verdict.specs.Laws.Owners.{package-inside}
+use Rattle.schedule_verdict.proofs.owners.packages_clean.Statement.{statement}
+use Rattle.schedule_verdict.proofs.owners.packages_clean.Tie as tie
+
+abbrev Inv-loop : tie.InvT-loop
+Inv-loop m jobs i₀ i = Passed (λ k. packageClean m (getD jobs k 0)) (length jobs) i
+
+abbrev μ-loop : tie.MeasureT-loop
+μ-loop m jobs i₀ i = length jobs - i
+
+loop-holds : tie.Need-loop-holds Inv-loop μ-loop
+loop-holds c = none-yet _ _
+
+mul-has-stray : tie.Need-mul-has-stray Inv-loop μ-loop
+mul-has-stray c = search needs
+
+shared-slice-read-has-stray : tie.Need-shared-slice-read-has-stray Inv-loop μ-loop
+shared-slice-read-has-stray c = search needs
+
+has-stray-requires : tie.Need-has-stray-requires Inv-loop μ-loop
+has-stray-requires c κs =
+    let start = c .before .before .before .before .before in
+    package-inside (start .args .m .now) (start .args .jobs .now) _ (c .before .loop-test .taken) (start .pre)
+
+returns : tie.Need-returns Inv-loop μ-loop
+unfolding packageClean
+returns c = one-fails _ _ _ (c .before .before .before .loop-test .taken) (ap not (sym (c .before .has-stray .ensures) ∙ c .if1 .taken))
+
+add-i : tie.Need-add-i Inv-loop μ-loop
+add-i c = omega arith
+
+loop-less : tie.Need-loop-less Inv-loop μ-loop
+loop-less c = omega arith
+
+loop-again : tie.Need-loop-again Inv-loop μ-loop
+unfolding packageClean
+loop-again c =
+    let body = c .before .before .before in
+    one-more _ _ _ (body .before .loop .inv) (body .loop-test .taken) (ap not (sym (c .before .has-stray .ensures) ∙ c .if1 .left))
+
+returns-2 : tie.Need-returns-2 Inv-loop μ-loop
+returns-2 c = all-passed _ _ _ (c .before .loop .inv) (c .loop-test .left)
+
+pub packages-clean-spec : {M : Type 1} → statement M
+packages-clean-spec =
+    tie.close
+    (tie.spec
+    Inv-loop
+    μ-loop
+    loop-holds
+    mul-has-stray
+    shared-slice-read-has-stray
+    has-stray-requires
+    returns
+    add-i
+    loop-less
+    loop-again
+    returns-2)

@@ -1,0 +1,175 @@
+/* Makes each call of tozhenab.h once, so that every declaration is tried against the archive: a call
+ * that passed a slice or a number in another place would give another answer. */
+#include "tozhenab.h"
+
+#include <inttypes.h>
+#include <stdio.h>
+#include <string.h>
+
+#define WORDS 0100
+#define LENGTH(array) (sizeof(array) / sizeof((array)[0]))
+
+static int failures = 0;
+
+static void expect(const char *what, uint64_t found, uint64_t expected)
+{
+    if (found != expected) {
+        printf("%s: %" PRIo64 " in place of %" PRIo64 "\n", what, found, expected);
+        failures++;
+    }
+}
+
+/* A memory with one program: its package at 0, its field of four words at 20 octal. The first word
+ * sets X6 to 5 and stores it at 3; the next one stops. */
+static void load(uint64_t *memory)
+{
+    memset(memory, 0, WORDS * sizeof memory[0]);
+    memory[1] = UINT64_C(020) << 36;
+    memory[2] = UINT64_C(4) << 36;
+    memory[020] = UINT64_C(071600000055160000003);
+}
+
+static void exchange_and_central_turn(void)
+{
+    uint64_t memory[WORDS];
+    uint64_t record[TOZHENAB_CENTRAL_NUMBERS] = {0};
+
+    load(memory);
+    expect("exchange past the end",
+           tozhenab_exchange(memory, LENGTH(memory), record, LENGTH(record), 061),
+           TOZHENAB_PACKAGE_PAST_END);
+    expect("exchange", tozhenab_exchange(memory, LENGTH(memory), record, LENGTH(record), 0),
+           TOZHENAB_ACCEPTED);
+    expect("exchange: RA", record[TOZHENAB_CENTRAL_RA], 020);
+    expect("exchange: FL", record[TOZHENAB_CENTRAL_FL], 4);
+    expect("exchange: the package", memory[1], 0);
+    expect("central turn of a short record",
+           tozhenab_central_turn(memory, LENGTH(memory), record, LENGTH(record) - 1),
+           TOZHENAB_RECORD_VALUE);
+    expect("central turn", tozhenab_central_turn(memory, LENGTH(memory), record, LENGTH(record)),
+           TOZHENAB_ACCEPTED);
+    expect("central turn: P", record[TOZHENAB_CENTRAL_P], 1);
+    expect("central turn: X6", record[TOZHENAB_CENTRAL_X + 6], 5);
+    expect("central turn: A6", record[TOZHENAB_CENTRAL_A + 6], 3);
+    expect("central turn: the word stored", memory[023], 5);
+}
+
+static void run_program(void)
+{
+    uint64_t memory[WORDS];
+    const uint64_t record[TOZHENAB_CENTRAL_NUMBERS] = {0};
+    uint64_t ran[TOZHENAB_RAN_NUMBERS];
+
+    load(memory);
+    expect("run of a program in a short result",
+           tozhenab_run_program(memory, LENGTH(memory), record, LENGTH(record), 0, 5, ran,
+                                LENGTH(ran) - 1),
+           TOZHENAB_LIST_LENGTH);
+    expect("run of a program",
+           tozhenab_run_program(memory, LENGTH(memory), record, LENGTH(record), 0, 5, ran,
+                                LENGTH(ran)),
+           TOZHENAB_ACCEPTED);
+    expect("run of a program: turns", ran[TOZHENAB_RAN_TURNS], 2);
+    expect("run of a program: stop", ran[TOZHENAB_RAN_STOP], 1);
+    expect("run of a program: the word stored", memory[023], 5);
+}
+
+static void schedule(void)
+{
+    uint64_t memory[WORDS];
+    const uint64_t record[TOZHENAB_CENTRAL_NUMBERS] = {0};
+    const uint64_t jobs[] = {0};
+    const uint64_t stint_jobs[] = {0, 0, 0};
+    const uint64_t stint_turns[] = {0, 1, 7};
+    uint64_t ran[LENGTH(stint_jobs) * TOZHENAB_RAN_NUMBERS];
+
+    load(memory);
+    expect("schedule with a stint of another job",
+           tozhenab_schedule(memory, LENGTH(memory), record, LENGTH(record), jobs, LENGTH(jobs),
+                             stint_turns, LENGTH(stint_turns), stint_jobs, LENGTH(stint_jobs), ran,
+                             LENGTH(ran)),
+           TOZHENAB_UNLISTED_JOB);
+    expect("schedule",
+           tozhenab_schedule(memory, LENGTH(memory), record, LENGTH(record), jobs, LENGTH(jobs),
+                             stint_jobs, LENGTH(stint_jobs), stint_turns, LENGTH(stint_turns), ran,
+                             LENGTH(ran)),
+           TOZHENAB_ACCEPTED);
+    expect("schedule: turns of the first stint", ran[TOZHENAB_RAN_TURNS], 0);
+    expect("schedule: turns of the second stint",
+           ran[TOZHENAB_RAN_NUMBERS + TOZHENAB_RAN_TURNS], 1);
+    expect("schedule: stop of the third stint",
+           ran[2 * TOZHENAB_RAN_NUMBERS + TOZHENAB_RAN_STOP], 1);
+    expect("schedule: the word stored", memory[023], 5);
+}
+
+/* Processor 1 begins with LDN 05 and LDN 07; processor 0 stops at once, since 71 is left out. */
+static void peripheral_turn_and_run(void)
+{
+    static uint16_t peripheral[2 * TOZHENAB_PROCESSOR_WORDS];
+    uint64_t central[WORDS];
+    uint64_t record[TOZHENAB_MACHINE_NUMBERS] = {0};
+    uint64_t made[TOZHENAB_RUN_NUMBERS];
+
+    load(central);
+    record[TOZHENAB_CENTRAL_STOP] = 1;
+    peripheral[0] = 07100;
+    peripheral[TOZHENAB_PROCESSOR_WORDS] = 01405;
+    peripheral[TOZHENAB_PROCESSOR_WORDS + 1] = 01407;
+    expect("turn of a processor that is not there",
+           tozhenab_peripheral_turn(central, LENGTH(central), peripheral, LENGTH(peripheral),
+                                    record, LENGTH(record), 2),
+           TOZHENAB_PERIPHERAL_LENGTH);
+    expect("peripheral turn",
+           tozhenab_peripheral_turn(central, LENGTH(central), peripheral, LENGTH(peripheral),
+                                    record, LENGTH(record), 1),
+           TOZHENAB_ACCEPTED);
+    expect("peripheral turn: P", record[TOZHENAB_MACHINE_PROCESSOR(1) + TOZHENAB_PROCESSOR_P], 1);
+    expect("peripheral turn: A", record[TOZHENAB_MACHINE_PROCESSOR(1) + TOZHENAB_PROCESSOR_A], 5);
+    expect("run of too many rounds",
+           tozhenab_run(central, LENGTH(central), peripheral, LENGTH(peripheral), record,
+                        LENGTH(record), TOZHENAB_TURNS + 1, made, LENGTH(made)),
+           TOZHENAB_TOO_MANY_TURNS);
+    expect("run",
+           tozhenab_run(central, LENGTH(central), peripheral, LENGTH(peripheral), record,
+                        LENGTH(record), 1, made, LENGTH(made)),
+           TOZHENAB_ACCEPTED);
+    expect("run: rounds", made[0], 1);
+    expect("run: clock", record[TOZHENAB_MACHINE_CLOCK], 1);
+    expect("run: stop", record[TOZHENAB_MACHINE_PROCESSOR(0) + TOZHENAB_PROCESSOR_STOP], 36);
+    expect("run: A", record[TOZHENAB_MACHINE_PROCESSOR(1) + TOZHENAB_PROCESSOR_A], 7);
+}
+
+static void put_take_and_drop(void)
+{
+    uint64_t record[TOZHENAB_MACHINE_NUMBERS] = {0};
+    uint64_t *channel = record + TOZHENAB_MACHINE_CHANNEL(013);
+    uint64_t taken[TOZHENAB_TAKEN_NUMBERS];
+
+    expect("put on an inactive channel", tozhenab_put(channel, TOZHENAB_CHANNEL_NUMBERS, 01234),
+           TOZHENAB_PUT_UNMET);
+    channel[TOZHENAB_CHANNEL_ACTIVE] = 1;
+    expect("take from an empty channel",
+           tozhenab_take(channel, TOZHENAB_CHANNEL_NUMBERS, taken, LENGTH(taken)),
+           TOZHENAB_TAKE_UNMET);
+    expect("put", tozhenab_put(channel, TOZHENAB_CHANNEL_NUMBERS, 01234), TOZHENAB_ACCEPTED);
+    expect("put: full", channel[TOZHENAB_CHANNEL_FULL], 1);
+    expect("take", tozhenab_take(channel, TOZHENAB_CHANNEL_NUMBERS, taken, LENGTH(taken)),
+           TOZHENAB_ACCEPTED);
+    expect("take: word", taken[TOZHENAB_TAKEN_WORD], 01234);
+    expect("take: mark", taken[TOZHENAB_TAKEN_MARK], 0);
+    expect("take: full", channel[TOZHENAB_CHANNEL_FULL], 0);
+    expect("drop of a short channel", tozhenab_drop(channel, TOZHENAB_CHANNEL_NUMBERS - 1),
+           TOZHENAB_RECORD_VALUE);
+    expect("drop", tozhenab_drop(channel, TOZHENAB_CHANNEL_NUMBERS), TOZHENAB_ACCEPTED);
+    expect("drop: active", channel[TOZHENAB_CHANNEL_ACTIVE], 0);
+}
+
+int main(void)
+{
+    exchange_and_central_turn();
+    run_program();
+    schedule();
+    peripheral_turn_and_run();
+    put_take_and_drop();
+    return failures == 0 ? 0 : 1;
+}
