@@ -4,8 +4,6 @@ use Rattle.host.specs.Laws.Central.{turn-stores, turn-is}
 use Rattle.host.proofs.central_calls.tozhenab_central_turn.Statement.{statement}
 use Rattle.host.proofs.central_calls.tozhenab_central_turn.Tie as tie
 
--- `host::central_calls::tozhenab_central_turn` meets its contract. Assumes nothing.
-
 central-lent-requires : tie.Need-central-lent-requires
 central-lent-requires c κs = search needs
 

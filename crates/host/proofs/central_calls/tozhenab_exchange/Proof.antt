@@ -4,8 +4,6 @@ use Rattle.host.specs.Laws.Central.{exchange-stores, exchange-is}
 use Rattle.host.proofs.central_calls.tozhenab_exchange.Statement.{statement}
 use Rattle.host.proofs.central_calls.tozhenab_exchange.Tie as tie
 
--- `host::central_calls::tozhenab_exchange` meets its contract. Assumes nothing.
-
 central-lent-requires : tie.Need-central-lent-requires
 central-lent-requires c κs = search needs
 

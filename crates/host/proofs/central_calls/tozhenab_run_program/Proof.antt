@@ -4,8 +4,6 @@ use Rattle.host.specs.Laws.Central.{program-is, program-short}
 use Rattle.host.proofs.central_calls.tozhenab_run_program.Statement.{statement}
 use Rattle.host.proofs.central_calls.tozhenab_run_program.Tie as tie
 
--- `host::central_calls::tozhenab_run_program` meets its contract. Assumes nothing.
-
 central-lent-requires : tie.Need-central-lent-requires
 central-lent-requires c κs = search needs
 

@@ -4,8 +4,6 @@ use Rattle.host.specs.Laws.Device.{drop-stores, drop-is}
 use Rattle.host.proofs.device_calls.tozhenab_drop.Statement.{statement}
 use Rattle.host.proofs.device_calls.tozhenab_drop.Tie as tie
 
--- `host::device_calls::tozhenab_drop` meets its contract. Assumes nothing.
-
 channel-lent-requires : tie.Need-channel-lent-requires
 channel-lent-requires c κs = search needs
 

@@ -4,8 +4,6 @@ use Rattle.host.specs.Laws.Device.{put-stores, put-is}
 use Rattle.host.proofs.device_calls.tozhenab_put.Statement.{statement}
 use Rattle.host.proofs.device_calls.tozhenab_put.Tie as tie
 
--- `host::device_calls::tozhenab_put` meets its contract. Assumes nothing.
-
 channel-lent-requires : tie.Need-channel-lent-requires
 channel-lent-requires c κs = search needs
 

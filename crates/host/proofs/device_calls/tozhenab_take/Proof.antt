@@ -4,8 +4,6 @@ use Rattle.host.specs.Laws.Device.{take-stores, take-is, take-short}
 use Rattle.host.proofs.device_calls.tozhenab_take.Statement.{statement}
 use Rattle.host.proofs.device_calls.tozhenab_take.Tie as tie
 
--- `host::device_calls::tozhenab_take` meets its contract. Assumes nothing.
-
 channel-lent-requires : tie.Need-channel-lent-requires
 channel-lent-requires c κs = search needs
 

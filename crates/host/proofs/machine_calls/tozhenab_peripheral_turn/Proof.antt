@@ -4,8 +4,6 @@ use Rattle.host.specs.Laws.Machine.{turn-stores, turn-is}
 use Rattle.host.proofs.machine_calls.tozhenab_peripheral_turn.Statement.{statement}
 use Rattle.host.proofs.machine_calls.tozhenab_peripheral_turn.Tie as tie
 
--- `host::machine_calls::tozhenab_peripheral_turn` meets its contract. Assumes nothing.
-
 machine-lent-requires : tie.Need-machine-lent-requires
 machine-lent-requires c κs = search needs
 

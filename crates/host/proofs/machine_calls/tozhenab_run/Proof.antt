@@ -4,8 +4,6 @@ use Rattle.host.specs.Laws.Machine.{run-stores, run-is, run-short}
 use Rattle.host.proofs.machine_calls.tozhenab_run.Statement.{statement}
 use Rattle.host.proofs.machine_calls.tozhenab_run.Tie as tie
 
--- `host::machine_calls::tozhenab_run` meets its contract. Assumes nothing.
-
 machine-lent-requires : tie.Need-machine-lent-requires
 machine-lent-requires c κs = search needs
 

@@ -5,8 +5,6 @@ use Rattle.host.specs.Laws.Schedule.{schedule-is, schedule-short}
 use Rattle.host.proofs.schedule_call.tozhenab_schedule.Statement.{statement}
 use Rattle.host.proofs.schedule_call.tozhenab_schedule.Tie as tie
 
--- `host::schedule_call::tozhenab_schedule` meets its contract. Assumes nothing.
-
 central-lent-requires : tie.Need-central-lent-requires
 central-lent-requires c κs = search needs
 
