@@ -6,7 +6,8 @@ use lib.ListN.{getD}
 use Rattle.outcome.specs.declared.stop.CentralStop.the-variants as Because
 use Rattle.outcome.specs.Numbers.{centralStopNumber}
 use Rattle.outcome.specs.declared.stop.CentralStop.{CentralStop}
-use Rattle.instruction.specs.Instruction.{decoded, isFit, parcelsOf}
+use Rattle.central_codes.specs.Codes.{isFit, parcelsOf}
+use Rattle.instruction.specs.Instruction.{decoded}
 use Rattle.central_effect.specs.Effects.{effectOf}
 use Rattle.instruction.specs.declared.instruction.Instruction.{Instruction}
 use Rattle.central_state.specs.declared.apply.Step.the-variants as Then

@@ -1,38 +1,49 @@
-// One instruction: its fitness and its length are tested first, 4 before 5, then its effect is applied.
+// One instruction: its entry of the table tells of its fitness and its length, 4 before 5, then its effect is applied.
+ghost use mathlib.Core.Bool.{true};
 ghost use mathlib.Core.Path.{_≡_};
-ghost use Prim.Native.Nat.{_<_};
+ghost use Prim.Native.Nat.{_%_, _<_, _≤_};
+ghost use Rattle.central_codes.specs.Table.{followsRule};
+ghost use Rattle.instruction.specs.Shifted.{decodedTop};
 ghost use Rattle.instruction.specs.Widths.{Wide};
 ghost use Rattle.central_state.specs.State.{state};
 ghost use Rattle.central_state.specs.Apply.{after};
-ghost use Rattle.central.specs.Turn.{stepOf};
+ghost use Rattle.central.specs.Turn.{ranAt};
+ghost use Rattle.central.specs.Remaining.{placeBefore, afterByRemaining};
 ghost use Rattle.central_state.specs.Widths.{Lent};
-use central_effect::effect::effect_of;
+use central_codes::table::entry_of;
+use central_effect::listing::effect_of;
 use central_state::apply::Step;
 use central_state::apply::apply;
 use field_test::address::Bounds;
-use instruction::instruction::decode;
-use instruction::instruction::is_fit;
-use instruction::instruction::parcels;
 use outcome::stop::CentralStop;
 
-// The instruction at this place of the word w, which stands at p.
-pub(crate) fn step(r: &mut [u64; 24], f: &mut [u64], b: Bounds, p: u64, w: u64, place: u64) -> Step
+// The instruction at the top of v, in the word at p, of which this many bits remain.
+pub(crate) fn step(
+    r: &mut [u64; 24],
+    f: &mut [u64],
+    t: &[u8; 512],
+    b: Bounds,
+    p: u64,
+    v: u64,
+    remaining: u64,
+) -> Step
     requires { ⌜ Wide (now r) ⌝ }
     requires { ⌜ Lent b (now f) ⌝ }
+    requires { ⌜ followsRule (now t) ≡ true ⌝ }
     requires { ⌜ p < 131072 ⌝ }
-    requires { ⌜ place < 4 ⌝ }
-    ensures { λ o. ⌜ after (now (r .exit)) (now (f .exit)) o ≡ stepOf (state (now (r .entry)) (now (f .entry))) b p w place ⌝ }
+    requires { ⌜ remaining ≤ 60 ⌝ }
+    requires { ⌜ remaining % 15 ≡ 0 ⌝ }
+    ensures { λ o. ⌜ after (now (r .exit)) (now (f .exit)) o
+        ≡ afterByRemaining (ranAt (state (now (r .entry)) (now (f .entry))) b p (placeBefore remaining) (decodedTop v)) ⌝ }
 {
-    let q = decode(w, place);
-    let code = q.code;
-    let fit = is_fit(code, q.i);
-    let next = place + parcels(code);
-    if !fit {
-        return Step::Stop(CentralStop::UnfitCode);
-    }
-    if 4 < next {
+    let entry = entry_of(t, v >> 58, (v >> 55) & 7);
+    if remaining < entry {
+        // An unfit code's entry is longer than the word.
+        if 60 < entry {
+            return Step::Stop(CentralStop::UnfitCode);
+        }
         return Step::Stop(CentralStop::LastParcel);
     }
-    let e = effect_of(&*r, q, p);
-    apply(&mut *r, &mut *f, b, e, next)
+    let e = effect_of(&*r, v, p);
+    apply(&mut *r, &mut *f, b, e, remaining - entry)
 }

@@ -1,6 +1,8 @@
 // A turn, and up to n turns.
+ghost use mathlib.Core.Bool.{true};
 ghost use mathlib.Core.Path.{_≡_};
 ghost use Prim.Native.Nat.{_+_, _^_, _<_, _≤_};
+ghost use Rattle.central_codes.specs.Table.{followsRule};
 ghost use Rattle.central_state.specs.State.{state};
 ghost use Rattle.central.specs.Turn.{turned, wordRun, turnOf, ran, turnsOf};
 ghost use Rattle.central_state.specs.Widths.{Kept};
@@ -27,17 +29,20 @@ pub struct RunEnd {
 }
 
 // The parcels of the word w, which stands at p, from the first on.
-fn run_word(r: &mut [u64; 24], f: &mut [u64], b: Bounds, p: u64, w: u64) -> TurnEnd
+fn run_word(r: &mut [u64; 24], f: &mut [u64], t: &[u8; 512], b: Bounds, p: u64, w: u64) -> TurnEnd
     requires { ⌜ Kept (b .fl) (state (now r) (now f)) ⌝ }
     requires { ⌜ b .ra + b .fl ≤ 131072 ⌝ }
+    requires { ⌜ followsRule (now t) ≡ true ⌝ }
     requires { ⌜ p < b .fl ⌝ }
     ensures { λ o. ⌜ turned (state (now (r .exit)) (now (f .exit))) o ≡ wordRun b p w (state (now (r .entry)) (now (f .entry))) ⌝ }
 {
-    let mut place: u64 = 0;
-    while place < 4 {
-        match step(&mut *r, &mut *f, b, p, w, place) {
+    let mut remaining: u64 = 60;
+    let mut v = w << 4;
+    while 0 < remaining {
+        match step(&mut *r, &mut *f, t, b, p, v, remaining) {
             Step::Next(next) => {
-                place = next;
+                v = v << (remaining - next);
+                remaining = next;
             }
             Step::Branch(target) => {
                 return TurnEnd { p: target, stop: 0 };
@@ -54,16 +59,17 @@ fn run_word(r: &mut [u64; 24], f: &mut [u64], b: Bounds, p: u64, w: u64) -> Turn
 }
 
 // The word at p is fetched once and run, or the fetch is outside the field.
-pub(crate) fn turn(r: &mut [u64; 24], f: &mut [u64], b: Bounds, p: u64) -> TurnEnd
+pub(crate) fn turn(r: &mut [u64; 24], f: &mut [u64], t: &[u8; 512], b: Bounds, p: u64) -> TurnEnd
     requires { ⌜ Kept (b .fl) (state (now r) (now f)) ⌝ }
     requires { ⌜ b .ra + b .fl ≤ 131072 ⌝ }
+    requires { ⌜ followsRule (now t) ≡ true ⌝ }
     ensures { λ o. ⌜ turned (state (now (r .exit)) (now (f .exit))) o ≡ turnOf b p (state (now (r .entry)) (now (f .entry))) ⌝ }
 {
     match convert(b, Relative(p)) {
         Place::Inside(a) => {
             let n = index(b, a);
             let w = f[n];
-            run_word(&mut *r, &mut *f, b, p, w)
+            run_word(&mut *r, &mut *f, t, b, p, w)
         }
         Place::Outside => TurnEnd {
             p,
@@ -73,22 +79,23 @@ pub(crate) fn turn(r: &mut [u64; 24], f: &mut [u64], b: Bounds, p: u64) -> TurnE
 }
 
 // Up to n turns, the first at p; a stop ends them.
-pub fn turns(r: &mut [u64; 24], f: &mut [u64], b: Bounds, p: u64, n: u64) -> RunEnd
+pub fn turns(r: &mut [u64; 24], f: &mut [u64], t: &[u8; 512], b: Bounds, p: u64, n: u64) -> RunEnd
     requires { ⌜ Kept (b .fl) (state (now r) (now f)) ⌝ }
     requires { ⌜ b .ra + b .fl ≤ 131072 ⌝ }
+    requires { ⌜ followsRule (now t) ≡ true ⌝ }
     requires { ⌜ p < 2 ^ 18 ⌝ }
     ensures { λ o. ⌜ ran (state (now (r .exit)) (now (f .exit))) o ≡ turnsOf n b p (state (now (r .entry)) (now (f .entry))) ⌝ }
 {
     let mut at = p;
     let mut made: u64 = 0;
     while made < n {
-        let t = turn(&mut *r, &mut *f, b, at);
-        at = t.p;
+        let e = turn(&mut *r, &mut *f, t, b, at);
+        at = e.p;
         made = made + 1;
-        if t.stop != 0 {
+        if e.stop != 0 {
             return RunEnd {
                 p: at,
-                stop: t.stop,
+                stop: e.stop,
                 turns: made,
             };
         }

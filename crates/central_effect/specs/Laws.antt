@@ -1,2 +1,3 @@
 -- Consequences of the definitions. Assumes nothing.
 pub mod Effects
+pub mod Constant

@@ -3,4 +3,6 @@ pub mod arithmetic;
 pub mod branches;
 pub mod effect;
 pub mod increments;
+pub mod listing;
+pub mod rows;
 pub mod shifts;

@@ -1,3 +1,5 @@
 -- Consequences of the definitions. Assumes nothing.
-pub mod Codes
+pub mod Parcels
+pub mod Instruction
+pub mod Shifted
 pub mod Widths

@@ -21,6 +21,11 @@ pub record Fit (q : Instruction) : Type 0 where
   pub jk : q .jk < 64
   pub constant : q .constant < 2 ^ 18
 
+-- q is the instruction w, of those widths
+pub record Read (q w : Instruction) : Type 0 where
+  pub is : q ≡ w
+  pub fit : Fit q
+
 -- v is w, a value of 18 bits; of 60 bits
 pub record Short (v w : ℕ) : Type 0 where
   pub is : v ≡ w

@@ -1,3 +1,3 @@
-// The central processor's registers and instructions: parts, length and fitness of each code.
+// The central processor's registers, and the parts of its instructions.
 pub mod instruction;
 pub mod registers;

@@ -11,7 +11,8 @@ use Rattle.word.specs.Bits.{bits, low}
 use Rattle.word.specs.Sums.{complement, sum}
 use Rattle.shift.specs.Shifts.{rotateLeft, mask, shiftRightSigned, shiftA, countOnes}
 use Rattle.shift.specs.Floating.{magnitude, coefficientOf, exponentFrom, exponentOf}
-use Rattle.instruction.specs.Instruction.{constantAt, decoded, isLong, isLeftOut, isFit, parcelsOf}
+use Rattle.central_codes.specs.Codes.{isLong, isLeftOut, isFit, parcelsOf}
+use Rattle.instruction.specs.Instruction.{constantAt, decoded}
 use Rattle.central_effect.specs.Effects.{branchOf, effectOf}
 use Rattle.central_state.specs.State.{State, state}
 use Rattle.field_test.specs.Address.{bounds, placeOf}

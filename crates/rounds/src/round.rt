@@ -1,22 +1,26 @@
 // A round, and a run of rounds.
+ghost use mathlib.Core.Bool.{true};
 ghost use mathlib.Core.Path.{_≡_};
 ghost use Prim.Native.Nat.{_*_, _^_, _<_, _≤_};
 ghost use lib.ListN.{length};
 ghost use Rattle.exchange.specs.Accepted.{HostAccepted};
+ghost use Rattle.central_codes.specs.Table.{followsRule};
 ghost use Rattle.machine.specs.Numbers.{centralOf, clockOf};
 ghost use Rattle.machine.specs.Machine.{machine, centralSide};
 ghost use Rattle.machine.specs.Widths.{Kept};
 ghost use Rattle.rounds.specs.Rounds.{centralTurnOf, ticked, roundOf, allStopped, ran, roundsOf};
 use central::turn::turns;
+use central_codes::table::table;
 use field_test::address::Bounds;
 use machine::numbers::processor_of;
 use machine::numbers::set_controls;
 use processors::processors::processors_turn;
 
 // One turn of the central processor, which is lent its field alone. A stopped processor's turn changes nothing.
-fn central_turn(c: &mut [u64], x: &mut [u64; 24], s: &mut [u64; 84])
+fn central_turn(t: &[u8; 512], c: &mut [u64], x: &mut [u64; 24], s: &mut [u64; 84])
     requires { ⌜ HostAccepted (now c) (centralOf (now x) (now s)) ⌝ }
     requires { ⌜ length (now x) ≡ 24 ⌝ }
+    requires { ⌜ followsRule (now t) ≡ true ⌝ }
     ensures { λ o. ⌜ centralSide (now (c .exit)) (now (x .exit)) (now (s .exit))
         ≡ centralTurnOf (now (c .entry)) (now (x .entry)) (now (s .entry)) ⌝ }
 {
@@ -30,7 +34,7 @@ fn central_turn(c: &mut [u64], x: &mut [u64; 24], s: &mut [u64; 84])
     };
     let start = s[79] as usize;
     let end = start + (s[80] as usize);
-    let o = turns(&mut *x, &mut c[start..end], b, s[78], 1);
+    let o = turns(&mut *x, &mut c[start..end], t, b, s[78], 1);
     set_controls(&mut *s, o.p, b.ra, b.fl, b.em, o.stop);
 }
 
@@ -42,14 +46,22 @@ fn tick(s: &mut [u64; 84])
 }
 
 // With k peripheral processors.
-fn round(m: &mut [u16], c: &mut [u64], x: &mut [u64; 24], s: &mut [u64; 84], k: usize)
+fn round(
+    t: &[u8; 512],
+    m: &mut [u16],
+    c: &mut [u64],
+    x: &mut [u64; 24],
+    s: &mut [u64; 84],
+    k: usize,
+)
     requires { ⌜ Kept (k * 4096) (machine (now m) (now c) (now x) (now s)) ⌝ }
     requires { ⌜ k ≤ 10 ⌝ }
+    requires { ⌜ followsRule (now t) ≡ true ⌝ }
     ensures { λ o. ⌜ machine (now (m .exit)) (now (c .exit)) (now (x .exit)) (now (s .exit))
         ≡ roundOf k (machine (now (m .entry)) (now (c .entry)) (now (x .entry)) (now (s .entry))) ⌝ }
 {
     processors_turn(&mut *m, &mut *c, &mut *x, &mut *s, k);
-    central_turn(&mut *c, &mut *x, &mut *s);
+    central_turn(t, &mut *c, &mut *x, &mut *s);
     tick(&mut *s);
 }
 
@@ -85,12 +97,13 @@ pub fn run(
     ensures { λ r. ⌜ ran (machine (now (m .exit)) (now (c .exit)) (now (x .exit)) (now (s .exit))) r
         ≡ roundsOf n k (machine (now (m .entry)) (now (c .entry)) (now (x .entry)) (now (s .entry))) ⌝ }
 {
+    let t = table();
     let mut made: u64 = 0;
     while made < n {
         if all_stopped(&*s, k) {
             return made;
         }
-        round(&mut *m, &mut *c, &mut *x, &mut *s, k);
+        round(&t, &mut *m, &mut *c, &mut *x, &mut *s, k);
         made = made + 1;
     }
     made

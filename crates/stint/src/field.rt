@@ -3,6 +3,7 @@ ghost use mathlib.Core.Path.{_≡_};
 ghost use Rattle.exchange.specs.Accepted.{HostAccepted};
 ghost use Rattle.stint.specs.Field.{ranOn, ranTo};
 use central::turn::turns;
+use central_codes::table::table;
 use central_record::record::Central;
 use field_test::address::Bounds;
 
@@ -23,9 +24,10 @@ pub fn run(m: &mut [u64], c: Central, n: u64) -> Ran
         em: c.em,
     };
     let mut registers = c.registers;
+    let t = table();
     let start = c.ra as usize;
     let end = start + (c.fl as usize);
-    let o = turns(&mut registers, &mut m[start..end], b, c.p, n);
+    let o = turns(&mut registers, &mut m[start..end], &t, b, c.p, n);
     Ran {
         central: Central {
             p: o.p,

@@ -1,6 +1,6 @@
-// Prints the results of every operation of `word`, `word_fields`, `branch_condition` and `shift` on edge operands, in octal. The expected
-// output, in the file stdout, was written by expected.py beside it, which goes by strings of bits and by signed whole numbers and shares
-// nothing with this code.
+// Prints the results of every operation of `word`, `word_fields`, `branch_condition` and `shift`, and of decoding, on edge operands, in octal.
+// The expected output, in the file stdout, was written by expected.py beside it, which goes by strings of bits and by signed whole numbers
+// and shares nothing with this code.
 mod show;
 mod values18;
 mod values60;

@@ -2,6 +2,8 @@
 ghost use Prim.Native.Nat.{_<_, _^_};
 use super::show;
 use branch_condition::conditions::word_condition;
+use instruction::instruction::Instruction;
+use instruction::instruction::decode;
 use shift::floating::unpack;
 use shift::shifts::count_ones60;
 use shift::shifts::mask60;
@@ -14,12 +16,7 @@ use word::sums::is_negative60;
 use word::sums::low12;
 use word::sums::low18;
 use word::sums::sum60;
-use word_fields::fields::code;
-use word_fields::fields::constant_k;
-use word_fields::fields::digit;
 use word_fields::fields::from_parts;
-use word_fields::fields::jk;
-use word_fields::fields::parcel;
 use word_fields::fields::part;
 
 const EDGES: [u64; 12] = [
@@ -91,24 +88,30 @@ fn conditions(w: u64) {
     show::flag(word_condition(7, w));
 }
 
-fn digits(p: u64) {
-    show::short(digit(p, 0));
-    show::short(digit(p, 1));
-    show::short(digit(p, 2));
-    show::short(digit(p, 3));
-    show::short(digit(p, 4));
-    show::short(code(p));
-    show::short(jk(p));
+// The digits f m i j k, the code and jk.
+fn digits(q: Instruction) {
+    show::short(q.code / 8);
+    show::short(q.code % 8);
+    show::short(q.i as u64);
+    show::short(q.j as u64);
+    show::short(q.k as u64);
+    show::short(q.code);
+    show::short(q.jk);
 }
 
+// The instruction at each of the four places, and K where there is one.
 fn instructions(w: u64) {
-    digits(parcel(w, 0));
-    digits(parcel(w, 1));
-    digits(parcel(w, 2));
-    digits(parcel(w, 3));
-    show::short(constant_k(w, 0));
-    show::short(constant_k(w, 1));
-    show::short(constant_k(w, 2));
+    let first = decode(w << 4);
+    let second = decode(w << 19);
+    let third = decode(w << 34);
+    let fourth = decode(w << 49);
+    digits(first);
+    digits(second);
+    digits(third);
+    digits(fourth);
+    show::short(first.constant);
+    show::short(second.constant);
+    show::short(third.constant);
 }
 
 fn parts(w: u64) {

@@ -7,8 +7,14 @@
 use crate::record::{self, Parts};
 use cases::{Call, Lent};
 use second::machine::Machine;
-use second::{Made, Processor};
+use second::{Made, Requests};
 use tozhenab::layout::{CENTRAL_NUMBERS, MACHINE_NUMBERS, P, PROCESSORS};
+
+/// The requests of document 02 that have landed: those that the second emulator has in force.
+const LANDED: Requests = Requests {
+    b: true,
+    ..Requests::none()
+};
 
 /// Makes the call on what is lent and gives its number.
 pub fn call(call: &Call, lent: &mut Lent) -> u64 {
@@ -46,9 +52,9 @@ fn central_call(call: &Call, lent: &mut Lent) -> Result<(), u8> {
     let mut central = central_of(&lent.record);
     match call {
         Call::Exchange { address } => {
-            second::central_exchange(&mut lent.memory, &mut central, *address)?
+            second::central_exchange(&LANDED, &mut lent.memory, &mut [], &mut central, *address)?
         }
-        _ => second::central_turn(&mut lent.memory, &mut central)?,
+        _ => second::central_turn(&LANDED, &mut lent.memory, &mut [], &mut central)?,
     }
     record::keep_central(&mut lent.record, &central);
     Ok(())
@@ -59,14 +65,14 @@ fn job_call(call: &Call, lent: &mut Lent, room: bool) -> Result<(), u8> {
     let memory = &mut lent.memory;
     let made = match call {
         // A schedule of no job is number 6 where nothing before it is due, as a short result is.
-        _ if !room => second::schedule(memory, &mut central, &[], &[], &[])?,
+        _ if !room => second::schedule(&LANDED, memory, &mut [], &mut central, &[], &[], &[])?,
         Call::Schedule {
             jobs,
             stint_jobs,
             stint_turns,
-        } => second::schedule(memory, &mut central, jobs, stint_jobs, stint_turns)?,
+        } => second::schedule(&LANDED, memory, &mut [], &mut central, jobs, stint_jobs, stint_turns)?,
         Call::RunProgram { address, turns } => {
-            vec![second::stint(memory, &mut central, *address, *turns)?]
+            vec![second::stint(&LANDED, memory, &mut [], &mut central, *address, *turns)?]
         }
         _ => unreachable!("the other calls run no job"),
     };
@@ -86,7 +92,7 @@ fn parts_of(flat: &[u64], count: usize) -> Parts {
         return Parts::of(&over);
     }
     let mut parts = Parts::of(flat);
-    if !parts.processors[count..].iter().all(Processor::fits) {
+    if !parts.processors[count..].iter().all(|processor| processor.fits(&LANDED)) {
         parts.clock = u16::MAX;
     }
     parts
@@ -97,6 +103,7 @@ fn machine_call(call: &Call, lent: &mut Lent, room: bool) -> Result<(), u8> {
     let mut parts = parts_of(&lent.record, count);
     let mut machine = Machine {
         memory: &mut lent.memory,
+        extended: &mut [],
         central: &mut parts.central,
         peripheral: &mut lent.peripheral,
         processors: &mut parts.processors[..count],
@@ -105,12 +112,12 @@ fn machine_call(call: &Call, lent: &mut Lent, room: bool) -> Result<(), u8> {
     };
     match call {
         Call::PeripheralTurn { processor } => {
-            second::peripheral_turn(&mut machine, *processor as usize)?
+            second::peripheral_turn(&LANDED, &mut machine, *processor as usize)?
         }
-        Call::Run { rounds } if room => lent.result[0] = second::run(&mut machine, *rounds)?,
+        Call::Run { rounds } if room => lent.result[0] = second::run(&LANDED, &mut machine, *rounds)?,
         _ => {
             // A run of no rounds changes nothing and meets numbers 1 to 5.
-            second::run(&mut machine, 0)?;
+            second::run(&LANDED, &mut machine, 0)?;
             return Err(6);
         }
     }

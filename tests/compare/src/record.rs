@@ -32,6 +32,7 @@ pub fn central(flat: &[u64]) -> Central {
         b: eight(B),
         x: std::array::from_fn(|n| flat[X + n]),
         stop: to_u8(flat[STOP]),
+        ..Central::default()
     }
 }
 
@@ -112,5 +113,6 @@ fn processor(flat: &[u64]) -> Processor {
         p: to_u16(flat[PROCESSOR_P]),
         a: to_u32(flat[PROCESSOR_A]),
         stop: to_u8(flat[PROCESSOR_STOP]),
+        ..Processor::default()
     }
 }

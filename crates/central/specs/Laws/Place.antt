@@ -6,7 +6,8 @@ use Prim.Native.Nat.{ℕ, zero, suc, _+_, _-_}
 use native.Mathlib.Omega.{arith}
 use lib.Dec.{ltb}
 use Rattle.instruction.specs.Registers.{setA}
-use Rattle.instruction.specs.Instruction.{decoded, parcelsOf}
+use Rattle.central_codes.specs.Codes.{parcelsOf}
+use Rattle.instruction.specs.Instruction.{decoded}
 use Rattle.central_effect.specs.Effects.{effectOf}
 use Rattle.central_effect.specs.declared.effect.Effect.{Effect}
 use Rattle.central_effect.specs.declared.effect.Effect.the-variants.{Pass, Stop, Jump, ReturnJump, SetA, SetB, SetX, SetXB}

@@ -1,47 +1,31 @@
 -- One instruction: by the results of its parts, what it keeps, and where it goes on. Assumes nothing.
-use mathlib.Core.Bool.{Bool, true, false, not}
 use mathlib.Core.List.{List}
 use mathlib.Core.Path.{_≡_, refl}
 use Prim.Native.Nat.{ℕ, _+_, _^_, _≤_, _<_}
 use native.Mathlib.Omega.{arith}
-use borrow.Author.Tests.{lt-ltb, le-ltb, ltb-true, not-true, not-false}
+use borrow.Author.Tests.{ltb-true, ltb-false}
 use lib.Dec.{eqb, ltb}
 use Rattle.word.specs.Laws.Choice.{of-cond}
-use Rattle.outcome.specs.declared.stop.CentralStop.the-variants as Because
-use Rattle.instruction.specs.Instruction.{decoded, isFit, parcelsOf}
+use Rattle.central_codes.specs.Codes.{isFit, parcelsOf}
+use Rattle.instruction.specs.Instruction.{decoded}
 use Rattle.central_effect.specs.Effects.{effectOf}
 use Rattle.central_effect.specs.Sound.{Sound}
-use Rattle.instruction.specs.Laws.Codes.{parcels-few}
-use Rattle.central_effect.specs.Laws.Effects.{decoded-fits, effect-sound}
+use Rattle.central_codes.specs.Laws.Codes.{parcels-few}
+use Rattle.instruction.specs.Laws.Instruction.{decoded-fits}
+use Rattle.central_effect.specs.Laws.Effects.{effect-sound}
 use Rattle.central_effect.specs.declared.effect.Effect.{Effect}
 use Rattle.central_effect.specs.declared.effect.Effect.the-variants.{Pass, Stop, Jump, ReturnJump, SetA, SetB, SetX, SetXB}
-use Rattle.instruction.specs.declared.instruction.Instruction.{Instruction}
 use Rattle.central_state.specs.declared.apply.Step.the-variants as Then
 use Rattle.central_state.specs.State.{State}
 use Rattle.field_test.specs.Address.{placeOf, relative}
 use Rattle.central_state.specs.Apply.{After, stopsOutside, referred, aSet, storedAt, returnJumped, applied}
-use Rattle.central.specs.Turn.{stoppedBy, ranAt, stepOf}
+use Rattle.central.specs.Turn.{ranAt, stepOf}
 use Rattle.central_state.specs.Widths.{Kept}
 use Rattle.central_state.specs.Laws.Widths.{KeptAfter, apply-keeps}
 use Rattle.field_test.specs.declared.address.Bounds.{Bounds}
 use Rattle.field_test.specs.declared.address.Place.{Place}
 use Rattle.field_test.specs.declared.address.Place.the-variants.{Inside, Outside}
 use Rattle.central_state.specs.declared.apply.Step.{Step}
-
--- an instruction, by the results of its parts
-module _ (s : State) (b : Bounds) (p place : ℕ) (q : Instruction) (fit : Bool) (ef : fit ≡ isFit (q .code) (q .i)) where
-  pub ran-unfit : not fit ≡ true → stoppedBy s Because.UnfitCode ≡ ranAt s b p place q
-  unfolding ranAt
-  ran-unfit e = rw (← ef, not-true fit e)
-
-  module _ (e : not fit ≡ false) (next : ℕ) (en : next ≡ place + parcelsOf (q .code)) where
-    pub ran-cut : 4 < next → stoppedBy s Because.LastParcel ≡ ranAt s b p place q
-    unfolding ranAt
-    ran-cut h = rw (← ef, not-false fit e, ← en, lt-ltb 4 next h)
-
-    pub ran-whole : (f : Effect) (a : After) → next ≤ 4 → f ≡ effectOf (s .registers) q p → a ≡ applied s b f next → a ≡ ranAt s b p place q
-    unfolding ranAt
-    ran-whole f a h ee ea = rw (← ef, not-false fit e, ← en, le-ltb 4 next h, ← ee) ea
 
 -- a step keeps the widths
 pub step-keeps : (n : ℕ) (s : State) (b : Bounds) (p w place : ℕ) → p < 131072 → Kept n s → KeptAfter n (stepOf s b p w place)
@@ -90,16 +74,16 @@ apply-reaches s b (SetX _ _) next h l = refl
 apply-reaches s b (SetXB _ _ _ _) next h l = refl
 
 abbrev pub Later : ℕ → Step → Type 0
-Later place (Then.Next next) = place < next
+Later place (Then.Next next) = (place < next) × (next ≤ 4)
 Later place (Then.Branch target) = target < 2 ^ 18
 Later place (Then.Stop c) = Unit {0}
 
-further : (place next : ℕ) (o : Step) → place < next → Reached next o → Later place o
-further place next (Then.Next n) h e = omega (arith, e)
-further place next (Then.Branch t) h e = e
-further place next (Then.Stop c) h e = tt
+further : (place next : ℕ) (o : Step) → place < next → next ≤ 4 → Reached next o → Later place o
+further place next (Then.Next n) h l e = (omega (arith, e), omega (arith, e))
+further place next (Then.Branch t) h l e = e
+further place next (Then.Stop c) h l e = tt
 
--- a step that goes on does so at a later place
+-- a step that goes on does so at a later place of the word, or at its end
 pub step-reaches : (n : ℕ) (s : State) (b : Bounds) (p w place : ℕ) → p < 131072 → b .fl ≤ 131072 → Kept n s
     → Later place (stepOf s b p w place .step)
 unfolding ranAt
@@ -111,5 +95,6 @@ step-reaches n s b p w place h l k =
     (λ e.
     further place (place + parcelsOf (q .code)) (applied s b (effectOf (s .registers) q p) (place + parcelsOf (q .code)) .step)
     (omega (arith, parcels-few (q .code) _ refl))
+    (ltb-false 4 (place + parcelsOf (q .code)) e)
     (apply-reaches s b (effectOf (s .registers) q p) _ (effect-sound (s .registers) q (k .wide) (decoded-fits w place) p h) l)))
     (λ e. tt)

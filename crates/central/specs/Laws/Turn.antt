@@ -69,10 +69,10 @@ module _ (b : Bounds) (p w : ℕ) (room : b .fl ≤ 131072) (inside : p < b .fl)
     going-out t ends = sym (ends _) ∙ stepped (g .most) (g .enough) (g .is) .1 .1
 
   pub going-on : (h : place < 4) (a : After) (e : a ≡ stepOf s b p w place) (next : ℕ) → a .step ≡ Then.Next next
-      → (place < next) × Going b p w s₀ (a .state) next
+      → ((place < next) × (next ≤ 4)) × Going b p w s₀ (a .state) next
   going-on h a e next i =
       let o = stepped h a e (Then.Next next) i (g .most) (g .enough) (g .is) in
-      let l : place < next = later h a e (Then.Next next) i in
+      let l : (place < next) × (next ≤ 4) = later h a e (Then.Next next) i in
       let m : g .most ≡ suc (o .0) = o .1 .0 in (
         l,
         record {

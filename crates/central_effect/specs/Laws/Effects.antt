@@ -1,12 +1,13 @@
--- Instructions have parts of their widths, and their effects name registers that are there and values of their widths. Assumes nothing.
+-- Effects name registers that are there and values of their widths; the effect of a code by its number. Assumes nothing.
 use mathlib.Core.Bool.{Bool, true, false}
 use mathlib.Core.List.{List}
+use mathlib.Core.Path.{_≡_}
 use Prim.Native.Nat.{ℕ, _+_, _/_, _%_, _^_, _<_}
 use native.Mathlib.Omega.{arith}
 use lib.Dec.{eqb, ltb, lit<, lit≤}
+use lib.ListN.{getD}
 use Rattle.word.specs.Bits.{low}
 use Rattle.branch_condition.specs.Conditions.{wordCondition, comparison}
-use Rattle.word_fields.specs.Fields.{parcel}
 use Rattle.word.specs.Laws.Bits.{bits-lt}
 use Rattle.word.specs.Laws.Choice.{of-cond, of-getD}
 use Rattle.word.specs.Laws.Logic.{logical-lt}
@@ -15,27 +16,11 @@ use Rattle.shift.specs.Laws.Floating.{coefficient-lt, exponent-lt, packed-lt}
 use Rattle.shift.specs.Laws.Rotation.{rotate-lt}
 use Rattle.shift.specs.Laws.Shifts.{mask-lt, signed-lt, nominal-left-lt, nominal-right-lt, count-le}
 use Rattle.instruction.specs.Registers.{aOf, bOf, xOf}
-use Rattle.instruction.specs.Instruction.{constantAt, decoded}
 use Rattle.central_effect.specs.Effects.{jumpIf, firstBranches, branchOf, unpackTo, shifts, leftOut, shiftOf, sumOf, maskOrCountOf, operands, operandOf, rows, effectOf}
+use Rattle.instruction.specs.Shifted.{decodedTop}
 use Rattle.instruction.specs.Widths.{Wide, Fit}
 use Rattle.central_effect.specs.Sound.{Sound}
 use Rattle.instruction.specs.declared.instruction.Instruction.{Instruction}
-
-constant-lt : (w place : ℕ) → constantAt w place < 2 ^ 18
-unfolding constantAt
-constant-lt w place = of-cond (λ (k : ℕ). k < 2 ^ 18) (ltb place 3) (λ e. bits-lt w _ 18) (λ e. lit< tt)
-
-pub decoded-fits : (w place : ℕ) → Fit (decoded w place)
-unfolding decoded
-decoded-fits w place =
-    record {
-      code = bits-lt (parcel w place) 9 6;
-      i = bits-lt (parcel w place) 6 3;
-      j = bits-lt (parcel w place) 3 3;
-      k = bits-lt (parcel w place) 0 3;
-      jk = bits-lt (parcel w place) 0 6;
-      constant = constant-lt w place;
-    }
 
 module _ (r : List ℕ) (q : Instruction) (w : Wide r) (f : Fit q) where
   a-lt : (i : ℕ) → i < 8 → aOf r i < 2 ^ 18
@@ -143,3 +128,13 @@ module _ (r : List ℕ) (q : Instruction) (w : Wide r) (f : Fit q) where
         ),
       )
       tt
+
+-- the effect of a code by its number, which picks the row and the entry
+pub effect-by-code : (r : List ℕ) (q : Instruction) (p c : ℕ) → q .code ≡ c → effectOf r q p ≡ getD (rows r q (c % 8) p) (c / 8) leftOut
+unfolding effectOf
+effect-by-code r q p c e = rw e
+
+pub effect-at-top : (r : List ℕ) (v p c : ℕ) → v / 2 ^ 58 ≡ c
+    → effectOf r (decodedTop v) p ≡ getD (rows r (decodedTop v) (c % 8) p) (c / 8) leftOut
+unfolding decodedTop
+effect-at-top r v p c e = effect-by-code r (decodedTop v) p c e

@@ -1,31 +1,41 @@
 -- `central::turn::run_word` meets its contract. Assumes nothing.
-use mathlib.Core.Path.{_∙_, refl, sym}
-use Prim.Native.Nat.{_-_}
+use mathlib.Core.Path.{_∙_, sym}
 use native.Mathlib.Omega.{arith}
 use borrow.Author.Needs.{needs}
-use Rattle.central.proofs.turn.run_word.Tie as tie
 use Rattle.central_state.specs.State.{state}
-use Rattle.central.specs.Laws.Turn.{Going, going-start, going-on, going-out, going-end}
+use Rattle.central.specs.Laws.Shifted.{Shifted, shifted-start, shifted-on, shifted-branch, shifted-stop, shifted-end}
 use Rattle.central.proofs.turn.run_word.Statement.{statement}
+use Rattle.central.proofs.turn.run_word.Tie as tie
 
 abbrev Inv-loop : tie.InvT-loop
-Inv-loop r₀ f₀ b p w place₀ r f place = Going b p w (state r₀ f₀) (state r f) place
+Inv-loop r₀ f₀ t b p w remaining₀ v₀ r f remaining v = Shifted b p w (state r₀ f₀) (state r f) v remaining
 
 abbrev μ-loop : tie.MeasureT-loop
-μ-loop r₀ f₀ b p w place₀ r f place = 4 - place
+μ-loop r₀ f₀ t b p w remaining₀ v₀ r f remaining v = remaining
 
 loop-holds : tie.Need-loop-holds Inv-loop μ-loop
-loop-holds c = going-start _ _ _ _ (c .before .pre .0)
+loop-holds c = shifted-start _ _ _ _ (c .before .pre .0)
 
 step-requires : tie.Need-step-requires Inv-loop μ-loop
 step-requires c κs =
     let pre = c .before .before .before .before .before .pre in
     let loop = c .before .before .before .loop in
-    let loop-test = c .before .before .loop-test in
-    (loop .inv .kept .wide, (record { size = loop .inv .kept .size; room = pre .1 .0 }, (omega (arith, pre .1), loop-test .taken)))
+    (loop .inv .going .kept .wide, (record { size = loop .inv .going .kept .size; room = pre .1 .0 }, (pre .1 .1 .0, (omega (arith, pre .1 .0, pre .1 .1 .1), (omega (arith, loop .inv .total), omega (arith, loop .inv .total))))))
 
 enum-known-next : tie.Need-enum-known-next Inv-loop μ-loop
 enum-known-next c = search needs
+
+sub-v : tie.Need-sub-v Inv-loop μ-loop
+sub-v c =
+    let pre = c .before .before .before .before .before .before .before .before .before .before .before .pre in
+    let loop = c .before .before .before .before .before .before .before .before .before .loop in
+    let loop-test = c .before .before .before .before .before .before .before .before .loop-test in
+    let step = c .before .before .before .before .before .step in
+    let next = c .before .next in
+    omega (arith, shifted-on _ _ _ (omega (arith, pre .1 .0)) (pre .1 .1 .1) _ _ _ _ (loop .inv) (loop-test .taken) _ (step .ensures) _ (next .given .1) .0)
+
+shl-v : tie.Need-shl-v Inv-loop μ-loop
+shl-v c = omega (arith, c .before .before .before .before .before .before .before .before .before .loop .inv .total)
 
 loop-less : tie.Need-loop-less Inv-loop μ-loop
 loop-less c =
@@ -34,7 +44,7 @@ loop-less c =
     let loop-test = c .before .before .before .before .before .before .before .before .loop-test in
     let step = c .before .before .before .before .before .step in
     let next = c .before .next in
-    omega (arith, going-on _ _ _ (omega (arith, pre .1 .0)) (pre .1 .1) _ _ _ (loop .inv) (loop-test .taken) _ (step .ensures) _ (next .given .1) .0, loop-test .taken)
+    shifted-on _ _ _ (omega (arith, pre .1 .0)) (pre .1 .1 .1) _ _ _ _ (loop .inv) (loop-test .taken) _ (step .ensures) _ (next .given .1) .0
 
 loop-again : tie.Need-loop-again Inv-loop μ-loop
 loop-again c =
@@ -43,7 +53,7 @@ loop-again c =
     let loop-test = c .before .before .before .before .before .before .before .before .loop-test in
     let step = c .before .before .before .before .before .step in
     let next = c .before .next in
-    going-on _ _ _ (omega (arith, pre .1 .0)) (pre .1 .1) _ _ _ (loop .inv) (loop-test .taken) _ (step .ensures) _ (next .given .1) .1
+    shifted-on _ _ _ (omega (arith, pre .1 .0)) (pre .1 .1 .1) _ _ _ _ (loop .inv) (loop-test .taken) _ (step .ensures) _ (next .given .1) .1
 
 enum-known-target : tie.Need-enum-known-target Inv-loop μ-loop
 enum-known-target c = search needs
@@ -53,7 +63,7 @@ same-length c =
     let pre = c .before .before .before .before .before .before .before .before .before .before .before .pre in
     let loop = c .before .before .before .before .before .before .before .before .before .loop in
     let step = c .before .before .before .before .before .step in
-    step .kept .1 .0 ∙ loop .inv .kept .size ∙ sym (pre .0 .size)
+    step .kept .1 .0 ∙ loop .inv .going .kept .size ∙ sym (pre .0 .size)
 
 returns : tie.Need-returns Inv-loop μ-loop
 returns c =
@@ -62,7 +72,7 @@ returns c =
     let loop-test = c .before .before .before .before .before .before .before .before .loop-test in
     let step = c .before .before .before .before .before .step in
     let target = c .before .target in
-    going-out _ _ _ (omega (arith, pre .1 .0)) (pre .1 .1) _ _ _ (loop .inv) (loop-test .taken) _ (step .ensures) _ (target .given .1) _ (λ rest. refl)
+    shifted-branch _ _ _ (omega (arith, pre .1 .0)) (pre .1 .1 .1) _ _ _ _ (loop .inv) (loop-test .taken) _ (step .ensures) _ (target .given .1)
 
 enum-known-s : tie.Need-enum-known-s Inv-loop μ-loop
 enum-known-s c = search needs
@@ -75,7 +85,7 @@ same-length-2 c =
     let pre = c .before .before .before .before .before .before .before .before .before .before .before .before .pre in
     let loop = c .before .before .before .before .before .before .before .before .before .before .loop in
     let step = c .before .before .before .before .before .before .step in
-    step .kept .1 .0 ∙ loop .inv .kept .size ∙ sym (pre .0 .size)
+    step .kept .1 .0 ∙ loop .inv .going .kept .size ∙ sym (pre .0 .size)
 
 returns-2 : tie.Need-returns-2 Inv-loop μ-loop
 returns-2 c =
@@ -84,20 +94,21 @@ returns-2 c =
     let loop-test = c .before .before .before .before .before .before .before .before .before .loop-test in
     let step = c .before .before .before .before .before .before .step in
     let s = c .before .before .s in
-    rw (c .number .ensures)
-    (going-out _ _ _ (omega (arith, pre .1 .0)) (pre .1 .1) _ _ _ (loop .inv) (loop-test .taken) _ (step .ensures) _ (s .given .1) _ (λ rest. refl))
+    let number = c .number in
+    rw (number .ensures) (shifted-stop _ _ _ (omega (arith, pre .1 .0)) (pre .1 .1 .1) _ _ _ _ (loop .inv) (loop-test .taken) _ (step .ensures) _ (s .given .1))
 
-add-t16 : tie.Need-add-t16 Inv-loop μ-loop
-add-t16 c = omega (arith, c .before .before .before .pre .1)
+add-t19 : tie.Need-add-t19 Inv-loop μ-loop
+add-t19 c = omega (arith, c .before .before .before .pre .1)
 
 same-length-3 : tie.Need-same-length-3 Inv-loop μ-loop
-same-length-3 c = c .before .loop .inv .kept .size ∙ sym (c .before .before .before .pre .0 .size)
+same-length-3 c = c .before .loop .inv .going .kept .size ∙ sym (c .before .before .before .pre .0 .size)
 
 returns-3 : tie.Need-returns-3 Inv-loop μ-loop
 returns-3 c =
     let pre = c .before .before .before .pre in
     let loop = c .before .loop in
-    going-end _ _ _ (omega (arith, pre .1 .0)) (pre .1 .1) _ _ _ (loop .inv) (c .loop-test .left)
+    let loop-test = c .loop-test in
+    shifted-end _ _ _ (omega (arith, pre .1 .0)) (pre .1 .1 .1) _ _ _ _ (loop .inv) (omega (arith, loop-test .left))
 
 pub run-word-spec : {M : Type 1} → statement M
 run-word-spec =
@@ -108,6 +119,8 @@ run-word-spec =
     loop-holds
     step-requires
     enum-known-next
+    sub-v
+    shl-v
     loop-less
     loop-again
     enum-known-target
@@ -117,6 +130,6 @@ run-word-spec =
     number-requires
     same-length-2
     returns-2
-    add-t16
+    add-t19
     same-length-3
     returns-3)

@@ -1,12 +1,12 @@
 -- `central::turn::turn` meets its contract. Assumes nothing.
 use mathlib.Core.Path.{_∙_, sym, subst}
-use borrow.Author.Needs.{needs}
-use Rattle.central.proofs.turn.turn.Tie as tie
 use Rattle.field_test.specs.Address.{Within}
 use Rattle.central.specs.Turn.{turnOf}
 use Rattle.field_test.specs.Laws.Address.{place-within, inside-below}
 use Rattle.field_test.specs.declared.address.Place.{Place}
+use borrow.Author.Needs.{needs}
 use Rattle.central.proofs.turn.turn.Statement.{statement}
+use Rattle.central.proofs.turn.turn.Tie as tie
 
 convert-requires : tie.Need-convert-requires
 convert-requires c κs = search needs
@@ -32,7 +32,7 @@ run-word-requires c κs =
     let pre = c .before .before .before .before .before .before .before .before .before .pre in
     let convert = c .before .before .before .before .before .before .before .convert in
     let a = c .before .before .before .before .before .a in
-    (pre .0, (pre .1, inside-below _ _ _ (sym (convert .ensures) ∙ a .given .1)))
+    (pre .0, (pre .1 .0, (pre .1 .1, inside-below _ _ _ (sym (convert .ensures) ∙ a .given .1))))
 
 enum-told : tie.Need-enum-told
 enum-told c = search needs

@@ -2,22 +2,25 @@
 use mathlib.Core.Path.{_∙_, sym}
 use Prim.Native.Nat.{_-_}
 use native.Mathlib.Omega.{arith}
-use Rattle.central.proofs.turn.turns.Tie as tie
 use Rattle.central_state.specs.State.{state}
 use Rattle.central.specs.Laws.Run.{Going, going-start, going-on, going-stop, going-end}
 use Rattle.central.proofs.turn.turns.Statement.{statement}
+use Rattle.central.proofs.turn.turns.Tie as tie
 
 abbrev Inv-loop : tie.InvT-loop
-Inv-loop r₀ f₀ b p n at₀ made₀ r f at made = Going b n p (state r₀ f₀) (state r f) at made
+Inv-loop r₀ f₀ t b p n at₀ made₀ r f at made = Going b n p (state r₀ f₀) (state r f) at made
 
 abbrev μ-loop : tie.MeasureT-loop
-μ-loop r₀ f₀ b p n at₀ made₀ r f at made = n - made
+μ-loop r₀ f₀ t b p n at₀ made₀ r f at made = n - made
 
 loop-holds : tie.Need-loop-holds Inv-loop μ-loop
-loop-holds c = going-start _ _ _ _ (c .before .pre .1 .1) (c .before .pre .0)
+loop-holds c = going-start _ _ _ _ (c .before .pre .1 .1 .1) (c .before .pre .0)
 
 turn-requires : tie.Need-turn-requires Inv-loop μ-loop
-turn-requires c κs = (c .before .before .before .loop .inv .kept, c .before .before .before .before .before .pre .1 .0)
+turn-requires c κs =
+    let pre = c .before .before .before .before .before .pre in
+    let loop = c .before .before .before .loop in
+    (loop .inv .kept, (pre .1 .0, pre .1 .1 .0))
 
 add-made : tie.Need-add-made Inv-loop μ-loop
 add-made c = omega (arith, c .before .before .before .before .before .loop-test .taken)
@@ -35,7 +38,8 @@ returns c =
     let loop = c .before .before .before .before .before .before .before .before .loop in
     let loop-test = c .before .before .before .before .before .before .before .loop-test in
     let turn = c .before .before .before .before .turn in
-    going-stop _ (omega (arith, pre .1 .0)) _ _ _ _ _ _ (loop .inv) (loop-test .taken) _ (turn .ensures) (c .if1 .taken)
+    let if1 = c .if1 in
+    going-stop _ (omega (arith, pre .1 .0)) _ _ _ _ _ _ (loop .inv) (loop-test .taken) _ (turn .ensures) (if1 .taken)
 
 loop-less : tie.Need-loop-less Inv-loop μ-loop
 loop-less c = omega arith
@@ -46,13 +50,18 @@ loop-again c =
     let loop = c .before .before .before .before .before .before .before .before .loop in
     let loop-test = c .before .before .before .before .before .before .before .loop-test in
     let turn = c .before .before .before .before .turn in
-    going-on _ (omega (arith, pre .1 .0)) _ _ _ _ _ _ (loop .inv) (loop-test .taken) _ (turn .ensures) (c .if1 .left)
+    let if1 = c .if1 in
+    going-on _ (omega (arith, pre .1 .0)) _ _ _ _ _ _ (loop .inv) (loop-test .taken) _ (turn .ensures) (if1 .left)
 
 same-length-2 : tie.Need-same-length-2 Inv-loop μ-loop
 same-length-2 c = c .before .loop .inv .kept .size ∙ sym (c .before .before .before .pre .0 .size)
 
 returns-2 : tie.Need-returns-2 Inv-loop μ-loop
-returns-2 c = going-end _ (omega (arith, c .before .before .before .pre .1 .0)) _ _ _ _ _ _ (c .before .loop .inv) (c .loop-test .left)
+returns-2 c =
+    let pre = c .before .before .before .pre in
+    let loop = c .before .loop in
+    let loop-test = c .loop-test in
+    going-end _ (omega (arith, pre .1 .0)) _ _ _ _ _ _ (loop .inv) (loop-test .left)
 
 pub turns-spec : {M : Type 1} → statement M
 turns-spec =

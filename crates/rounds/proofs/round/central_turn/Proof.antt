@@ -19,8 +19,8 @@ returns c = central-stopped _ _ _ (c .if1 .taken)
 element-copy-out-start : tie.Need-element-copy-out-start
 element-copy-out-start c = search needs
 
-element-copy-out-t16 : tie.Need-element-copy-out-t16
-element-copy-out-t16 c = search needs
+element-copy-out-t17 : tie.Need-element-copy-out-t17
+element-copy-out-t17 c = search needs
 
 element-copy-out-end : tie.Need-element-copy-out-end
 element-copy-out-end c = search needs
@@ -44,7 +44,9 @@ part-turns-start : tie.Need-part-turns-start
 part-turns-start c = search needs
 
 part-turns-end : tie.Need-part-turns-end
-part-turns-end c = omega (arith, field-inside _ _ (c .before .before .before .before .before .before .before .before .before .pre .0))
+part-turns-end c =
+    let pre = c .before .before .before .before .before .before .before .before .before .pre in
+    omega (arith, field-inside _ _ (pre .0))
 
 element-copy-out-turns : tie.Need-element-copy-out-turns
 element-copy-out-turns c = search needs
@@ -53,7 +55,7 @@ turns-requires : tie.Need-turns-requires
 turns-requires c κs =
     let args = c .before .before .before .before .before .before .before .before .before .before .before .args in
     let pre = c .before .before .before .before .before .before .before .before .before .before .before .pre in
-    rw (place-back (getD (args .s .now) 79 0) (getD (args .s .now) 80 0)) (field-kept _ _ (pre .0) (pre .1), (field-room _ _ (pre .0), p-short _ _ (pre .0)))
+    rw (place-back (getD (args .s .now) 79 0) (getD (args .s .now) 80 0)) (field-kept _ _ (pre .0) (pre .1 .0), (field-room _ _ (pre .0), (pre .1 .1, p-short _ _ (pre .0))))
 
 set-controls-requires : tie.Need-set-controls-requires
 set-controls-requires c κs = search needs
@@ -76,7 +78,7 @@ central-turn-spec =
     element-copy-out-if1
     returns
     element-copy-out-start
-    element-copy-out-t16
+    element-copy-out-t17
     element-copy-out-end
     element-copy-out-start-2
     element-copy-out-end-2

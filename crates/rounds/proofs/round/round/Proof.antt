@@ -9,17 +9,14 @@ processors-turn-requires : tie.Need-processors-turn-requires
 processors-turn-requires c κs = search needs
 
 central-turn-requires : tie.Need-central-turn-requires
-central-turn-requires c κs =
-    let pre = c .before .before .before .before .before .before .before .before .before .before .before .before .before .before .pre in
-    let processors-turn = c .before .before .before .before .before .before .before .processors-turn in
-    let o = after-kept _ (pre .1) (machine _ _ _ _) (pre .0) (machine _ _ _ _) (processors-turn .ensures) in (o .host, o .count)
+central-turn-requires c κs = let o = after-kept _ (c .before .before .before .before .before .before .before .before .before .before .before .before .before .before .pre .1 .0) (machine _ _ _ _) (c .before .before .before .before .before .before .before .before .before .before .before .before .before .before .pre .0) (machine _ _ _ _) (c .before .before .before .before .before .before .before .processors-turn .ensures) in (o .host, (o .count, c .before .before .before .before .before .before .before .before .before .before .before .before .before .before .pre .1 .1))
 
 tick-requires : tie.Need-tick-requires
 tick-requires c κs =
     let pre = c .before .before .before .before .before .before .before .before .before .before .before .before .before .before .before .before .before .before .pre in
     let processors-turn = c .before .before .before .before .before .before .before .before .before .before .before .processors-turn in
     let central-turn = c .before .before .before .central-turn in
-    clock-kept _ (pre .1) (machine _ _ _ _) (pre .0) (machine _ _ _ _) (processors-turn .ensures) (centralSide _ _ _) (central-turn .ensures)
+    clock-kept _ (pre .1 .0) (machine _ _ _ _) (pre .0) (machine _ _ _ _) (processors-turn .ensures) (centralSide _ _ _) (central-turn .ensures)
 
 same-length : tie.Need-same-length
 same-length c = search needs
@@ -33,7 +30,7 @@ returns c =
     let processors-turn = c .before .before .before .before .before .before .before .before .before .before .before .before .processors-turn in
     let central-turn = c .before .before .before .before .central-turn in
     let tick = c .tick in
-    round-is _ (pre .1) (machine _ _ _ _) (pre .0) (machine _ _ _ _) (processors-turn .ensures) (centralSide _ _ _) (central-turn .ensures) _ (tick .ensures)
+    round-is _ (pre .1 .0) (machine _ _ _ _) (pre .0) (machine _ _ _ _) (processors-turn .ensures) (centralSide _ _ _) (central-turn .ensures) _ (tick .ensures)
 
 pub round-spec : {M : Type 1} → statement M
 round-spec =

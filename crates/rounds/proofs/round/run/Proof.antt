@@ -8,20 +8,23 @@ use Rattle.rounds.proofs.round.run.Statement.{statement}
 use Rattle.rounds.proofs.round.run.Tie as tie
 
 abbrev Inv-loop : tie.InvT-loop
-Inv-loop m₀ c₀ x₀ s₀ k n made₀ m c x s made = Going k n (machine m₀ c₀ x₀ s₀) (machine m c x s) made
+Inv-loop m₀ c₀ x₀ s₀ k n t made₀ m c x s made = Going k n (machine m₀ c₀ x₀ s₀) (machine m c x s) made
 
 abbrev μ-loop : tie.MeasureT-loop
-μ-loop m₀ c₀ x₀ s₀ k n made₀ m c x s made = n - made
+μ-loop m₀ c₀ x₀ s₀ k n t made₀ m c x s made = n - made
+
+table-requires : tie.Need-table-requires Inv-loop μ-loop
+table-requires c κs = tt
 
 loop-holds : tie.Need-loop-holds Inv-loop μ-loop
-loop-holds c = going-start _ _ (machine _ _ _ _) (c .before .before .pre .0)
+loop-holds c = going-start _ _ (machine _ _ _ _) (c .before .before .before .pre .0)
 
 all-stopped-requires : tie.Need-all-stopped-requires Inv-loop μ-loop
-all-stopped-requires c κs = c .before .before .before .before .before .pre .1
+all-stopped-requires c κs = c .before .before .before .before .before .before .pre .1
 
 same-length : tie.Need-same-length Inv-loop μ-loop
 same-length c =
-    let pre = c .before .before .before .before .before .before .before .pre in
+    let pre = c .before .before .before .before .before .before .before .before .pre in
     let loop = c .before .before .before .before .loop in
     loop .inv .kept .size ∙ sym (pre .0 .size)
 
@@ -37,9 +40,10 @@ returns c =
 
 round-requires : tie.Need-round-requires Inv-loop μ-loop
 round-requires c κs =
-    let pre = c .before .before .before .before .before .before .before .before .before .before .before .pre in
-    let loop = c .before .before .before .before .before .before .before .before .loop in
-    (loop .inv .kept, pre .1)
+    let pre = c .before .before .before .before .before .before .before .before .before .before .before .before .before .pre in
+    let table = c .before .before .before .before .before .before .before .before .before .before .table in
+    let loop = c .before .before .before .before .before .before .before .before .before .loop in
+    (loop .inv .kept, (pre .1, table .ensures))
 
 add-made : tie.Need-add-made Inv-loop μ-loop
 add-made c = omega arith
@@ -49,16 +53,16 @@ loop-less c = omega arith
 
 loop-again : tie.Need-loop-again Inv-loop μ-loop
 loop-again c =
-    let pre = c .before .before .before .before .before .before .before .before .before .before .before .before .before .before .before .before .pre in
-    let loop = c .before .before .before .before .before .before .before .before .before .before .before .before .before .loop in
-    let loop-test = c .before .before .before .before .before .before .before .before .before .before .before .before .loop-test in
-    let all-stopped = c .before .before .before .before .before .before .before .before .before .before .all-stopped in
-    let if1 = c .before .before .before .before .before .before .before .before .before .if1 in
+    let pre = c .before .before .before .before .before .before .before .before .before .before .before .before .before .before .before .before .before .before .pre in
+    let loop = c .before .before .before .before .before .before .before .before .before .before .before .before .before .before .loop in
+    let loop-test = c .before .before .before .before .before .before .before .before .before .before .before .before .before .loop-test in
+    let all-stopped = c .before .before .before .before .before .before .before .before .before .before .before .all-stopped in
+    let if1 = c .before .before .before .before .before .before .before .before .before .before .if1 in
     let round = c .before .before .before .before .round in
     going-on _ _ (machine _ _ _ _) (machine _ _ _ _) _ (loop .inv) (pre .1) (loop-test .taken) (sym (all-stopped .ensures) ∙ if1 .left) (machine _ _ _ _) (round .ensures)
 
 same-length-3 : tie.Need-same-length-3 Inv-loop μ-loop
-same-length-3 c = c .before .loop .inv .kept .size ∙ sym (c .before .before .before .before .pre .0 .size)
+same-length-3 c = c .before .loop .inv .kept .size ∙ sym (c .before .before .before .before .before .pre .0 .size)
 
 same-length-4 : tie.Need-same-length-4 Inv-loop μ-loop
 same-length-4 c = c .before .loop .inv .long
@@ -72,6 +76,7 @@ run-spec =
     (tie.spec
     Inv-loop
     μ-loop
+    table-requires
     loop-holds
     all-stopped-requires
     same-length

@@ -1,0 +1,3 @@
+-- Consequences of the definitions. Assumes nothing.
+pub mod Codes
+pub mod Table

@@ -1,0 +1,52 @@
+-- From the test of the whole sheet to the rule at each entry, and what an entry says. Assumes nothing.
+use mathlib.Core.Bool.{Bool, true, false, cond}
+use mathlib.Core.List.{List, [], _∷_}
+use mathlib.Core.Path.{_≡_, refl, ap, _∙_}
+use Prim.Native.Nat.{ℕ, zero, suc, _+_, _*_, _/_, _%_, _≤_, _<_}
+use native.Mathlib.Omega.{arith}
+use borrow.Author.Tests.{eqb-true}
+use lib.Dec.{eqb}
+use lib.ListN.{getD}
+use Rattle.word.specs.Laws.Tests.{both}
+use Rattle.central_codes.specs.Codes.{isFit, parcelsOf}
+use Rattle.central_codes.specs.Laws.Codes.{parcels-few}
+use Rattle.central_codes.specs.Table.{entryOf, followsFrom, followsRule}
+
+abbrev entryAt : ℕ → ℕ
+entryAt n = entryOf (n / 8) (n % 8)
+
+entries-from : (t : List ℕ) (first n : ℕ) → followsFrom first t ≡ true → first + n < 0o1000 → getD t n 0 ≡ entryAt (first + n)
+unfolding followsFrom
+entries-from [] first n e h = absurd (omega (arith, eqb-true first 0o1000 e))
+entries-from (x ∷ t) first zero e h =
+    let z : first ≡ first + 0 = omega arith in
+    eqb-true x (entryAt first) (both (eqb x (entryAt first)) (followsFrom (suc first) t) e .0) ∙ ap entryAt z
+entries-from (x ∷ t) first (suc n) e h =
+    let z : suc first + n ≡ first + suc n = omega arith in
+    entries-from t (suc first) n (both (eqb x (entryAt first)) (followsFrom (suc first) t) e .1) (omega arith) ∙ ap entryAt z
+
+-- the rule at each entry
+pub rule-at : (t : List ℕ) (c i : ℕ) → followsRule t ≡ true → c < 64 → i < 8 → getD t (c * 8 + i) 0 ≡ entryOf c i
+rule-at t c i e hc hi =
+    let z : 0 + (c * 8 + i) ≡ c * 8 + i = omega arith in
+    let q : (c * 8 + i) / 8 ≡ c = omega arith in
+    let r : (c * 8 + i) % 8 ≡ i = omega arith in
+    entries-from t 0 (c * 8 + i) e (omega arith) ∙ ap entryAt z ∙ rw (q, r)
+
+-- what an entry says
+module _ (e c i : ℕ) (is : e ≡ entryOf c i) where
+  pub entry-unfit : 60 < e → isFit c i ≡ false
+  unfolding entryOf
+  entry-unfit h = by-fit (isFit c i) is
+    where
+      by-fit : (t : Bool) → e ≡ 15 * parcelsOf c + cond t 0 64 → t ≡ false
+      by-fit true x = absurd (omega (arith, parcels-few c _ refl))
+      by-fit false x = refl
+
+  pub entry-fit : e ≤ 60 → (isFit c i ≡ true) × (e ≡ 15 * parcelsOf c)
+  unfolding entryOf
+  entry-fit h = by-fit (isFit c i) is
+    where
+      by-fit : (t : Bool) → e ≡ 15 * parcelsOf c + cond t 0 64 → (t ≡ true) × (e ≡ 15 * parcelsOf c)
+      by-fit true x = (refl, omega arith)
+      by-fit false x = absurd (omega arith)

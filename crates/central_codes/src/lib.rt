@@ -1,0 +1,2 @@
+// Length and fitness of the central processor's codes, as one table.
+pub mod table;

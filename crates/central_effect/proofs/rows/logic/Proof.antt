@@ -1,0 +1,28 @@
+-- `central_effect::rows::logic` meets its contract. Assumes nothing.
+use borrow.Author.Needs.{needs}
+use Rattle.central_effect.proofs.rows.logic.Statement.{statement}
+use Rattle.central_effect.proofs.rows.logic.Tie as tie
+
+decode-requires : tie.Need-decode-requires
+decode-requires c κs = search needs
+
+x-of-requires : tie.Need-x-of-requires
+x-of-requires c κs = search needs
+
+x-of-requires-2 : tie.Need-x-of-requires-2
+x-of-requires-2 c κs = search needs
+
+logical-requires : tie.Need-logical-requires
+logical-requires c κs = search needs
+
+returns : tie.Need-returns
+returns c =
+    let decode = c .before .before .before .decode in
+    let x-of = c .before .before .x-of in
+    let x-of2 = c .before .x-of2 in
+    let logical = c .logical in
+    rw (← decode .ensures .is, logical .ensures, x-of .ensures .is, x-of2 .ensures .is)
+
+pub logic-spec : {M : Type 1} → statement M
+logic-spec =
+    tie.close (tie.spec decode-requires x-of-requires x-of-requires-2 logical-requires returns)
