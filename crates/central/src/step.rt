@@ -38,7 +38,7 @@ pub(crate) fn step(
 {
     let entry = entry_of(t, v >> 58, (v >> 55) & 7);
     if remaining < entry {
-        // An unfit code's entry is longer than the word.
+        // The entry of an unfit code exceeds the bits of any word.
         if 60 < entry {
             return Step::Stop(CentralStop::UnfitCode);
         }

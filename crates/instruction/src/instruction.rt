@@ -1,5 +1,4 @@
 // Decoding.
-ghost use mathlib.Core.Path.{_≡_};
 ghost use Rattle.instruction.specs.Shifted.{decodedTop};
 ghost use Rattle.instruction.specs.Widths.{Read};
 

@@ -4,11 +4,10 @@ use mathlib.Core.List.{List}
 use mathlib.Core.Path.{_≡_}
 use Prim.Native.Nat.{ℕ, _+_, _/_, _%_, _^_, _<_}
 use native.Mathlib.Omega.{arith}
-use lib.Dec.{eqb, ltb, lit<, lit≤}
+use lib.Dec.{eqb, lit<, lit≤}
 use lib.ListN.{getD}
 use Rattle.word.specs.Bits.{low}
 use Rattle.branch_condition.specs.Conditions.{wordCondition, comparison}
-use Rattle.word.specs.Laws.Bits.{bits-lt}
 use Rattle.word.specs.Laws.Choice.{of-cond, of-getD}
 use Rattle.word.specs.Laws.Logic.{logical-lt}
 use Rattle.word.specs.Laws.Sums.{sum-lt, difference-lt, extend-lt}

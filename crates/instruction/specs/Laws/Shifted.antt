@@ -1,5 +1,5 @@
 -- The instruction at the top of a shifted word is the one at its place of the word, but for K at the last place. Assumes nothing.
-use mathlib.Core.Path.{_≡_, refl, sym, ap, subst, _∙_}
+use mathlib.Core.Path.{_≡_, sym, ap, subst, _∙_}
 use Prim.Native.Nat.{ℕ, _+_, _-_, _*_, _/_, _%_, _^_, _≤_, _<_}
 use native.Mathlib.Nat.{mod-lt}
 use native.Mathlib.Omega.{arith}
@@ -57,8 +57,13 @@ top-fits v h =
       constant = bits-lt v 34 18;
     }
 
-pub top-read : (q : Instruction) (v : ℕ) → v < 2 ^ 64 → q ≡ decodedTop v → Read q (decodedTop v)
-top-read q v h e = record { is = e; fit = subst Fit (sym e) (top-fits v h) }
+-- q is that instruction where each part is
+pub top-read : (q : Instruction) (v : ℕ) → v < 2 ^ 64 → q .code ≡ v / 2 ^ 58 → q .i ≡ bits v 55 3 → q .j ≡ bits v 52 3 → q .k ≡ bits v 49 3
+    → q .jk ≡ bits v 49 6 → q .constant ≡ bits v 34 18 → Read q (decodedTop v)
+unfolding decodedTop
+top-read q v h code i j k jk constant =
+    let e : q ≡ decodedTop v = rw (← code, ← i, ← j, ← k, ← jk, ← constant) in
+    record { is = e; fit = subst Fit (sym e) (top-fits v h) }
 
 -- a shift by n parcels more
 pub shift-on : (w place n : ℕ) → shiftedTo w place * 2 ^ (15 * n) % 2 ^ 64 ≡ shiftedTo w (place + n)

@@ -18,6 +18,8 @@ pub struct Codes {
     pub central: [u64; 64],
     /// 01 with i other than 0.
     pub unfit_return: u64,
+    /// The same in the last parcel, where stops 4 and 5 are both due.
+    pub unfit_return_last: u64,
     /// By branch: P became K, or it did not. Counted where the branch is first in its word.
     pub branches: [[u64; 2]; BRANCHES],
     /// By code.
@@ -31,6 +33,7 @@ impl Codes {
         Codes {
             central: [0; 64],
             unfit_return: 0,
+            unfit_return_last: 0,
             branches: [[0; 2]; BRANCHES],
             peripheral: [0; 64],
             waits: [0; WAITING.len()],
@@ -64,6 +67,7 @@ impl Codes {
             let code = parcel >> 9 & 0o77;
             if code == 0o01 && parcel >> 6 & 7 != 0 {
                 self.unfit_return += 1;
+                self.unfit_return_last += u64::from(left == 15);
                 return;
             }
             if is_long(code) && left == 15 {
@@ -117,6 +121,10 @@ impl Codes {
             );
         }
         see(format_args!("01 with i not 0"), self.unfit_return);
+        see(
+            format_args!("01 with i not 0 in the last parcel"),
+            self.unfit_return_last,
+        );
         for (branch, [went, stayed]) in self.branches.iter().enumerate() {
             see(format_args!("{} to K", branch_name(branch)), *went);
             see(format_args!("{} not to K", branch_name(branch)), *stayed);

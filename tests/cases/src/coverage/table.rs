@@ -71,6 +71,11 @@ impl fmt::Display for Codes {
     fn fmt(&self, f: &mut fmt::Formatter) -> fmt::Result {
         write_codes(f, "central codes", &self.central)?;
         writeln!(f, "{:>8}  01 with i not 0", self.unfit_return)?;
+        writeln!(
+            f,
+            "{:>8}  01 with i not 0 in the last parcel",
+            self.unfit_return_last
+        )?;
         writeln!(f, "\nbranches first in their word: went to K, did not")?;
         for (branch, [went, stayed]) in self.branches.iter().enumerate() {
             let end = if branch % 4 == 3 { "\n" } else { "" };

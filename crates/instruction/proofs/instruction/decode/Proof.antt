@@ -1,14 +1,13 @@
 -- `instruction::instruction::decode` meets its contract. Assumes nothing.
+use mathlib.Core.Path.{refl}
 use native.Mathlib.Omega.{arith}
 use lib.Bits.{and-mask}
-use Rattle.instruction.proofs.instruction.decode.Tie as tie
-use Rattle.instruction.specs.Shifted.{decodedTop}
 use Rattle.instruction.specs.Laws.Shifted.{top-read}
 use Rattle.instruction.proofs.instruction.decode.Statement.{statement}
+use Rattle.instruction.proofs.instruction.decode.Tie as tie
 
 returns : tie.Need-returns
-unfolding decodedTop
-returns c = top-read _ (c .args .v) (omega arith) (rw (and-mask _ 3, and-mask _ 3, and-mask _ 3, and-mask _ 6, and-mask _ 18))
+returns c = top-read _ (c .args .v) (omega arith) refl (and-mask _ 3) (and-mask _ 3) (and-mask _ 3) (and-mask _ 6) (and-mask _ 18)
 
 pub decode-spec : {M : Type 1} → statement M
 decode-spec = tie.close (tie.spec returns)
