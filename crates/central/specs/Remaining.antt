@@ -9,8 +9,8 @@ abbrev pub remainingFrom : ℕ → ℕ
 remainingFrom place = 60 - 15 * place
 
 -- the place at which this many bits remain
-abbrev pub placeBefore : ℕ → ℕ
-placeBefore remaining = 4 - remaining / 15
+abbrev pub placeByRemaining : ℕ → ℕ
+placeByRemaining remaining = 4 - remaining / 15
 
 -- a step that goes on gives the bits that remain, and not the place
 abbrev pub byRemaining : Step → Step

@@ -1,4 +1,4 @@
-// One instruction: its entry of the table tells of its fitness and its length, 4 before 5, then its effect is applied.
+// One instruction: stops 4 and 5 by its entry of the table, 4 before 5; then its effect is worked out and applied.
 ghost use mathlib.Core.Bool.{true};
 ghost use mathlib.Core.Path.{_≡_};
 ghost use Prim.Native.Nat.{_%_, _<_, _≤_};
@@ -8,8 +8,9 @@ ghost use Rattle.instruction.specs.Widths.{Wide};
 ghost use Rattle.central_state.specs.State.{state};
 ghost use Rattle.central_state.specs.Apply.{after};
 ghost use Rattle.central.specs.Turn.{ranAt};
-ghost use Rattle.central.specs.Remaining.{placeBefore, afterByRemaining};
+ghost use Rattle.central.specs.Remaining.{placeByRemaining, afterByRemaining};
 ghost use Rattle.central_state.specs.Widths.{Lent};
+use central_codes::table::UNFIT;
 use central_codes::table::entry_of;
 use central_effect::listing::effect_of;
 use central_state::apply::Step;
@@ -34,12 +35,12 @@ pub(crate) fn step(
     requires { ⌜ remaining ≤ 60 ⌝ }
     requires { ⌜ remaining % 15 ≡ 0 ⌝ }
     ensures { λ o. ⌜ after (now (r .exit)) (now (f .exit)) o
-        ≡ afterByRemaining (ranAt (state (now (r .entry)) (now (f .entry))) b p (placeBefore remaining) (decodedTop v)) ⌝ }
+        ≡ afterByRemaining (ranAt (state (now (r .entry)) (now (f .entry))) b p (placeByRemaining remaining) (decodedTop v)) ⌝ }
 {
+    // By the nine bits f m i alone: the code's own arm decodes the rest.
     let entry = entry_of(t, v >> 58, (v >> 55) & 7);
     if remaining < entry {
-        // The entry of an unfit code exceeds the bits of any word.
-        if 60 < entry {
+        if UNFIT <= entry {
             return Step::Stop(CentralStop::UnfitCode);
         }
         return Step::Stop(CentralStop::LastParcel);

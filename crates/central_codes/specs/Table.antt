@@ -1,13 +1,13 @@
--- The table by its rule: "a fixed table of 512 entries, one for each nine-bit beginning, with its rule shown over the whole sheet".
--- Assumes nothing.
+-- The table by its rule. Document 02, (b): "a fixed table of 512 entries, one for each nine-bit beginning, with its rule shown over the whole
+-- sheet". Assumes nothing.
 use mathlib.Core.Bool.{Bool, _&&_, cond}
 use mathlib.Core.List.{List, [], _∷_}
 use Prim.Native.Nat.{ℕ, suc, _+_, _*_, _/_, _%_}
 use lib.Dec.{eqb}
 use Rattle.central_codes.specs.Codes.{isFit, parcelsOf}
 
--- the entry of the code c with this i: its length in bits, and 64 more where it is unfit; "an unfit code's length goes by document 01's
--- list too"
+-- the entry of the code c with this i: its length in bits, and 64 more where it is unfit; document 02, (b): "an unfit code's length goes by
+-- document 01's list too"
 unfoldable pub entryOf : ℕ → ℕ → ℕ
 entryOf c i = 15 * parcelsOf c + cond (isFit c i) 0 64
 

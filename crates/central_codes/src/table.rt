@@ -4,21 +4,22 @@ ghost use mathlib.Core.Path.{_≡_};
 ghost use Prim.Native.Nat.{_<_};
 ghost use Rattle.central_codes.specs.Table.{entryOf, followsRule};
 
-// An entry is the length of the code in bits, and this much more where the code is unfit. An unfit code's entry so exceeds the bits of any
-// word, and one comparison with the bits that remain of a word finds stops 4 and 5.
-pub const UNFIT: u8 = 64;
+// An entry is the length of the code in bits, and this much more where the code is unfit. So the entry of an unfit code exceeds the bits of
+// any word, and one comparison with the bits that remain of a word finds stops 4 and 5.
+pub const UNFIT: u64 = 64;
 
 const FIT_15: u8 = 15;
 
 const FIT_30: u8 = 30;
 
-const UNFIT_15: u8 = UNFIT + 15;
+const UNFIT_15: u8 = UNFIT as u8 + 15;
 
-const UNFIT_30: u8 = UNFIT + 30;
+const UNFIT_30: u8 = UNFIT as u8 + 30;
 
 // The entries in the order of the printed sheet, a line each, with its beginning in octal.
 // To add a code: change its entries here and its rule in specs/Codes.antt. The proof of `table` computes the test of all entries again, and
-// nothing else of this crate changes. The code's effect is the arm of its number in central_effect.
+// nothing else of this crate changes. The code's effect is its entry of a row in central_effect, where the listing no longer says `left out`;
+// the printed sheet follows (expected.py and stdout of central_sheet).
 const TABLE: [u8; 512] = [
     FIT_15, // 000
     FIT_15, // 001
@@ -541,7 +542,8 @@ pub fn table() -> [u8; 512]
     TABLE
 }
 
-fn wide(x: u8) -> u64
+// Apart, so that the index and the cast are proved by themselves.
+fn widened(x: u8) -> u64
     ensures { λ r. ⌜ r ≡ x ⌝ }
 {
     x as u64
@@ -555,5 +557,5 @@ pub fn entry_of(t: &[u8; 512], code: u64, i: u64) -> u64
     ensures { λ e. ⌜ e ≡ entryOf code i ⌝ }
 {
     let n = code * 8 + i;
-    wide(t[n as usize])
+    widened(t[n as usize])
 }

@@ -1,5 +1,5 @@
-// One function for each first digit of a code. It decodes the instruction at the top of v, and works out the effect of its second digit m:
-// decoding is left to the arm of a code, so that no code pays for the parts of another.
+// One function for each first digit of a code. It decodes the instruction at the top of v, and works out the effect of its second digit m.
+// Each arm of the listing decodes for itself, so that the compiler drops the parts that its code does not use.
 ghost use mathlib.Core.Path.{_≡_};
 ghost use Prim.Native.Nat.{_<_};
 ghost use Rattle.word.specs.Logic.{logical};

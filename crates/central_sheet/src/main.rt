@@ -12,7 +12,7 @@ fn digit(n: u64) -> u8 {
     b'0' + ((n % 8) as u8)
 }
 
-// As `010 30 fit`.
+// A line, as `010 30 fit`.
 fn print_line(t: &[u8; 512], code: u64, i: u64)
     requires { ⌜ followsRule (now t) ≡ true ⌝ }
     requires { ⌜ code < 64 ⌝ }
@@ -21,8 +21,8 @@ fn print_line(t: &[u8; 512], code: u64, i: u64)
     let entry = entry_of(t, code, i);
     let beginning = [digit(code / 8), digit(code), digit(i), b' '];
     io::write_all(1, &beginning);
-    io::print_decimal(1, entry % (UNFIT as u64));
-    if entry < (UNFIT as u64) {
+    io::print_decimal(1, entry % UNFIT);
+    if entry < UNFIT {
         io::write_all(1, b" fit\n");
     } else {
         io::write_all(1, b" unfit\n");

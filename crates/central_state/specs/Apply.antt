@@ -62,7 +62,7 @@ storedAt f b k w Outside = stored f (Then.Stop Because.FetchOutside)
 unfoldable pub returnJumped : List ℕ → Bounds → ℕ → ℕ → Stored
 returnJumped f b k w = storedAt f b k w (placeOf b (relative k))
 
--- n is the place after the instruction
+-- n says where the word goes on after the instruction, and is handed on as it is: here the place, in the code the bits that remain
 unfoldable pub applied : State → Bounds → Effect → ℕ → After
 applied s b Pass n = after (s .registers) (s .field) (Then.Next n)
 applied s b (Stop c) n = after (s .registers) (s .field) (Then.Stop c)

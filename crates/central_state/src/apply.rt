@@ -18,7 +18,7 @@ use outcome::stop::CentralStop;
 
 // What follows an instruction.
 pub enum Step {
-    // The word goes on, at the number that `apply` was given.
+    // The word goes on: the number that `apply` was given.
     Next(u64),
     // The new P.
     Branch(u64),
@@ -89,7 +89,7 @@ fn return_jump(f: &mut [u64], b: Bounds, target: u64, word: u64) -> Step
     }
 }
 
-// The effect e, and what follows it; next says where the word goes on after the instruction.
+// The effect e, and what follows it; next, the bits that remain after the instruction, is handed on as it is.
 pub fn apply(r: &mut [u64; 24], f: &mut [u64], b: Bounds, e: Effect, next: u64) -> Step
     requires { ⌜ Lent b (now f) ⌝ }
     requires { ⌜ Sound e ⌝ }

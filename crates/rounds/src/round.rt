@@ -17,7 +17,7 @@ use machine::numbers::set_controls;
 use processors::processors::processors_turn;
 
 // One turn of the central processor, which is lent its field alone. A stopped processor's turn changes nothing.
-fn central_turn(t: &[u8; 512], c: &mut [u64], x: &mut [u64; 24], s: &mut [u64; 84])
+fn central_turn(c: &mut [u64], x: &mut [u64; 24], s: &mut [u64; 84], t: &[u8; 512])
     requires { ⌜ HostAccepted (now c) (centralOf (now x) (now s)) ⌝ }
     requires { ⌜ length (now x) ≡ 24 ⌝ }
     requires { ⌜ followsRule (now t) ≡ true ⌝ }
@@ -47,11 +47,11 @@ fn tick(s: &mut [u64; 84])
 
 // With k peripheral processors.
 fn round(
-    t: &[u8; 512],
     m: &mut [u16],
     c: &mut [u64],
     x: &mut [u64; 24],
     s: &mut [u64; 84],
+    t: &[u8; 512],
     k: usize,
 )
     requires { ⌜ Kept (k * 4096) (machine (now m) (now c) (now x) (now s)) ⌝ }
@@ -61,7 +61,7 @@ fn round(
         ≡ roundOf k (machine (now (m .entry)) (now (c .entry)) (now (x .entry)) (now (s .entry))) ⌝ }
 {
     processors_turn(&mut *m, &mut *c, &mut *x, &mut *s, k);
-    central_turn(t, &mut *c, &mut *x, &mut *s);
+    central_turn(&mut *c, &mut *x, &mut *s, t);
     tick(&mut *s);
 }
 
@@ -103,7 +103,7 @@ pub fn run(
         if all_stopped(&*s, k) {
             return made;
         }
-        round(&t, &mut *m, &mut *c, &mut *x, &mut *s, k);
+        round(&mut *m, &mut *c, &mut *x, &mut *s, &t, k);
         made = made + 1;
     }
     made

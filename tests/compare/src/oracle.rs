@@ -10,7 +10,7 @@ use second::machine::Machine;
 use second::{Made, Requests};
 use tozhenab::layout::{CENTRAL_NUMBERS, MACHINE_NUMBERS, P, PROCESSORS};
 
-/// The requests of document 02 that have landed: those that the second emulator has in force.
+/// The requests of document 02 that have landed here; the second emulator answers with these in force.
 const LANDED: Requests = Requests {
     b: true,
     ..Requests::none()
@@ -70,9 +70,24 @@ fn job_call(call: &Call, lent: &mut Lent, room: bool) -> Result<(), u8> {
             jobs,
             stint_jobs,
             stint_turns,
-        } => second::schedule(&LANDED, memory, &mut [], &mut central, jobs, stint_jobs, stint_turns)?,
+        } => second::schedule(
+            &LANDED,
+            memory,
+            &mut [],
+            &mut central,
+            jobs,
+            stint_jobs,
+            stint_turns,
+        )?,
         Call::RunProgram { address, turns } => {
-            vec![second::stint(&LANDED, memory, &mut [], &mut central, *address, *turns)?]
+            vec![second::stint(
+                &LANDED,
+                memory,
+                &mut [],
+                &mut central,
+                *address,
+                *turns,
+            )?]
         }
         _ => unreachable!("the other calls run no job"),
     };
@@ -92,7 +107,10 @@ fn parts_of(flat: &[u64], count: usize) -> Parts {
         return Parts::of(&over);
     }
     let mut parts = Parts::of(flat);
-    if !parts.processors[count..].iter().all(|processor| processor.fits(&LANDED)) {
+    if !parts.processors[count..]
+        .iter()
+        .all(|processor| processor.fits(&LANDED))
+    {
         parts.clock = u16::MAX;
     }
     parts
@@ -114,7 +132,9 @@ fn machine_call(call: &Call, lent: &mut Lent, room: bool) -> Result<(), u8> {
         Call::PeripheralTurn { processor } => {
             second::peripheral_turn(&LANDED, &mut machine, *processor as usize)?
         }
-        Call::Run { rounds } if room => lent.result[0] = second::run(&LANDED, &mut machine, *rounds)?,
+        Call::Run { rounds } if room => {
+            lent.result[0] = second::run(&LANDED, &mut machine, *rounds)?
+        }
         _ => {
             // A run of no rounds changes nothing and meets numbers 1 to 5.
             second::run(&LANDED, &mut machine, 0)?;

@@ -28,9 +28,9 @@ use Rattle.field_test.specs.declared.address.Place.the-variants.{Inside, Outsid
 use Rattle.central_state.specs.State.{State}
 use Rattle.central_state.specs.Apply.{After, after, stopsOutside, referred, aSet, storedAt, returnJumped, applied}
 use Rattle.central.specs.Turn.{stoppedBy, ranAt, stepOf}
-use Rattle.central.specs.Remaining.{remainingFrom, placeBefore, byRemaining, afterByRemaining}
+use Rattle.central.specs.Remaining.{remainingFrom, placeByRemaining, byRemaining, afterByRemaining}
 
--- an effect passes on what it is told of the next parcel
+-- applying an effect hands on the number that it is given
 cond-remaining : (t : Bool) (x y : After) → cond t (afterByRemaining x) (afterByRemaining y) ≡ afterByRemaining (cond t x y)
 cond-remaining true x y = refl
 cond-remaining false x y = refl
@@ -72,27 +72,28 @@ unfolding decodedTop
 entry-at-top e v i is d = is ∙ ap (entryOf (v / 2 ^ 58)) d
 
 -- a step, by the entry of its code
-module _ (s : State) (b : Bounds) (p remaining e : ℕ) (q : Instruction) (h : remaining ≤ 60) (m : remaining % 15 ≡ 0) (is : e ≡ entryOf (q .code) (q .i)) where
-  pub ran-unfit : 60 < e → stoppedBy s Because.UnfitCode ≡ afterByRemaining (ranAt s b p (placeBefore remaining) q)
+module _ (s : State) (b : Bounds) (p remaining e : ℕ) (q : Instruction)
+    (h : remaining ≤ 60) (m : remaining % 15 ≡ 0) (is : e ≡ entryOf (q .code) (q .i)) where
+  pub ran-unfit : 64 ≤ e → stoppedBy s Because.UnfitCode ≡ afterByRemaining (ranAt s b p (placeByRemaining remaining) q)
   unfolding ranAt
   ran-unfit l = rw (entry-unfit e (q .code) (q .i) is l)
 
-  pub ran-cut : e ≤ 60 → remaining < e → stoppedBy s Because.LastParcel ≡ afterByRemaining (ranAt s b p (placeBefore remaining) q)
+  pub ran-cut : e < 64 → remaining < e → stoppedBy s Because.LastParcel ≡ afterByRemaining (ranAt s b p (placeByRemaining remaining) q)
   unfolding ranAt
   ran-cut l c =
       let f = entry-fit e (q .code) (q .i) is l in
-      let d : 4 < placeBefore remaining + parcelsOf (q .code) = omega (arith, f .1) in
-      rw (f .0, lt-ltb 4 (placeBefore remaining + parcelsOf (q .code)) d)
+      let d : 4 < placeByRemaining remaining + parcelsOf (q .code) = omega (arith, f .1) in
+      rw (f .0, lt-ltb 4 (placeByRemaining remaining + parcelsOf (q .code)) d)
 
   pub ran-whole : (f : Effect) (a : After) → e ≤ remaining → f ≡ effectOf (s .registers) q p → a ≡ applied s b f (remaining - e)
-      → a ≡ afterByRemaining (ranAt s b p (placeBefore remaining) q)
+      → a ≡ afterByRemaining (ranAt s b p (placeByRemaining remaining) q)
   unfolding ranAt
   ran-whole f a c ef ea =
       let g = entry-fit e (q .code) (q .i) is (omega arith) in
-      let n : ℕ = placeBefore remaining + parcelsOf (q .code) in
+      let n : ℕ = placeByRemaining remaining + parcelsOf (q .code) in
       let d : n ≤ 4 = omega (arith, g .1) in
       let k : remaining - e ≡ remainingFrom n = omega (arith, g .1) in
-      rw (g .0, le-ltb 4 (placeBefore remaining + parcelsOf (q .code)) d, ← ef) (ea ∙ ap (applied s b f) k ∙ apply-remaining s b f n)
+      rw (g .0, le-ltb 4 (placeByRemaining remaining + parcelsOf (q .code)) d, ← ef) (ea ∙ ap (applied s b f) k ∙ apply-remaining s b f n)
 
 -- at the last place no instruction with a K is run
 ran-last : (s : State) (b : Bounds) (p n : ℕ) (q : Instruction) → ranAt s b p 3 (withConstant q n) ≡ ranAt s b p 3 q
@@ -110,8 +111,10 @@ step-at-top s b p w place h = split (le-or-lt 3 place)
   where
     last : 3 ≡ place → ranAt s b p place (decodedTop (shiftedTo w place)) ≡ stepOf s b p w place
     last e =
+        let q : Instruction = decoded w place in
+        let n : ℕ = bits (shiftedTo w place) 34 18 in
         ap (ranAt s b p place) (top-decoded w place h)
-        ∙ subst (λ (n : ℕ). ranAt s b p n (withConstant (decoded w place) (bits (shiftedTo w place) 34 18)) ≡ ranAt s b p n (decoded w place)) e (ran-last s b p (bits (shiftedTo w place) 34 18) (decoded w place))
+        ∙ subst (λ (x : ℕ). ranAt s b p x (withConstant q n) ≡ ranAt s b p x q) e (ran-last s b p n q)
 
     split : (3 ≤ place) ⊎ (place < 3) → ranAt s b p place (decodedTop (shiftedTo w place)) ≡ stepOf s b p w place
     split (inl l) = last (omega arith)

@@ -12,10 +12,11 @@ use Rattle.central_state.specs.Apply.{After}
 use Rattle.central_state.specs.Widths.{Kept}
 use Rattle.central_state.specs.declared.apply.Step.the-variants as Then
 use Rattle.central_state.specs.declared.apply.Step.{Step}
-use Rattle.central.specs.Turn.{ranAt, stepOf, turned, turnEnd, wordRun}
-use Rattle.central.specs.Remaining.{remainingFrom, placeBefore, byRemaining, afterByRemaining}
+use Rattle.central.specs.Turn.{ranAt, stepOf, Turn, turned, turnEnd, goOn, wordRun}
+use Rattle.central.specs.Remaining.{remainingFrom, placeByRemaining, byRemaining, afterByRemaining}
 use Rattle.central.specs.Laws.Remaining.{step-at-top}
 use Rattle.central.specs.Laws.Turn.{Going, going-start, going-on, going-out, going-end}
+use Rattle.central.specs.declared.turn.TurnEnd.{TurnEnd}
 
 -- the step of which byRemaining is known
 from-next : (o : Step) (next : ℕ) → byRemaining o ≡ Then.Next next → (n : ℕ) × ((o ≡ Then.Next n) × (remainingFrom n ≡ next))
@@ -44,17 +45,19 @@ pub shifted-start : (b : Bounds) (p w : ℕ) (s : State) → Kept (b .fl) s → 
 unfolding shiftedTo
 shifted-start b p w s k = record { place = 0; total = refl; top = refl; going = going-start b p w s k }
 
-module _ (b : Bounds) (p w : ℕ) (room : b .fl ≤ 131072) (inside : p < b .fl) (s₀ s : State) (v remaining : ℕ) (g : Shifted b p w s₀ s v remaining) where
+-- b is a field in central memory, and p an address in it
+module _ (b : Bounds) (p w : ℕ) (room : b .fl ≤ 131072) (inside : p < b .fl)
+    (s₀ s : State) (v remaining : ℕ) (g : Shifted b p w s₀ s v remaining) where
   pub shifted-end : remaining ≤ 0 → turned s (turnEnd (p + 1) 0) ≡ wordRun b p w s₀
   shifted-end h = going-end b p w room inside s₀ s (g .place) (g .going) (omega (arith, g .total))
 
-  module _ (h : 0 < remaining) (a : After) (e : a ≡ afterByRemaining (ranAt s b p (placeBefore remaining) (decodedTop v))) where
+  module _ (h : 0 < remaining) (a : After) (e : a ≡ afterByRemaining (ranAt s b p (placeByRemaining remaining) (decodedTop v))) where
     early : g .place < 4
     early = omega (arith, g .total)
 
     stepped : a ≡ afterByRemaining (stepOf s b p w (g .place))
     stepped =
-        let d : placeBefore remaining ≡ g .place = omega (arith, g .total) in
+        let d : placeByRemaining remaining ≡ g .place = omega (arith, g .total) in
         e ∙ ap afterByRemaining (ap (λ (n : ℕ). ranAt s b p n (decodedTop v)) d
         ∙ ap (λ (x : ℕ). ranAt s b p (g .place) (decodedTop x)) (g .top)
         ∙ step-at-top s b p w (g .place) early)
@@ -65,17 +68,21 @@ module _ (b : Bounds) (p w : ℕ) (room : b .fl ≤ 131072) (inside : p < b .fl)
     told : (o : Step) → a .step ≡ o → byRemaining (stepOf s b p w (g .place) .step) ≡ o
     told o i = sym (ap (λ (x : After). x .step) stepped) ∙ i
 
+    -- where nothing of the word is run after the step
+    shifted-out : (o : Step) (t : TurnEnd) → stepOf s b p w (g .place) .step ≡ o
+        → ((x : State) (rest : State → ℕ → Turn) → goOn p rest x o ≡ turned x t) → turned (a .state) t ≡ wordRun b p w s₀
+    shifted-out o t i ends =
+        subst (λ (x : State). turned x t ≡ wordRun b p w s₀) same-state
+        (going-out b p w room inside s₀ s (g .place) (g .going) early _ refl o i t (ends _))
+
     pub shifted-branch : (t : ℕ) → a .step ≡ Then.Branch t → turned (a .state) (turnEnd t 0) ≡ wordRun b p w s₀
-    shifted-branch t i =
-        subst (λ (x : State). turned x (turnEnd t 0) ≡ wordRun b p w s₀) same-state
-        (going-out b p w room inside s₀ s (g .place) (g .going) early (stepOf s b p w (g .place)) refl (Then.Branch t) (from-branch _ t (told _ i)) (turnEnd t 0) (λ rest. refl))
+    shifted-branch t i = shifted-out (Then.Branch t) (turnEnd t 0) (from-branch _ t (told _ i)) (λ x rest. refl)
 
     pub shifted-stop : (c : CentralStop) → a .step ≡ Then.Stop c → turned (a .state) (turnEnd p (centralStopNumber c)) ≡ wordRun b p w s₀
-    shifted-stop c i =
-        subst (λ (x : State). turned x (turnEnd p (centralStopNumber c)) ≡ wordRun b p w s₀) same-state
-        (going-out b p w room inside s₀ s (g .place) (g .going) early (stepOf s b p w (g .place)) refl (Then.Stop c) (from-stop _ c (told _ i)) (turnEnd p (centralStopNumber c)) (λ rest. refl))
+    shifted-stop c i = shifted-out (Then.Stop c) (turnEnd p (centralStopNumber c)) (from-stop _ c (told _ i)) (λ x rest. refl)
 
-    pub shifted-on : (next : ℕ) → a .step ≡ Then.Next next → (next < remaining) × Shifted b p w s₀ (a .state) (v * 2 ^ (remaining - next) % 2 ^ 64) next
+    pub shifted-on : (next : ℕ) → a .step ≡ Then.Next next
+        → (next < remaining) × Shifted b p w s₀ (a .state) (v * 2 ^ (remaining - next) % 2 ^ 64) next
     shifted-on next i =
         let n = from-next (stepOf s b p w (g .place) .step) next (told _ i) in
         let k = going-on b p w room inside s₀ s (g .place) (g .going) early (stepOf s b p w (g .place)) refl (n .0) (n .1 .0) in

@@ -1,4 +1,4 @@
--- One instruction: by the results of its parts, what it keeps, and where it goes on. Assumes nothing.
+-- One instruction: what it keeps, and where it goes on. Assumes nothing.
 use mathlib.Core.List.{List}
 use mathlib.Core.Path.{_≡_, refl}
 use Prim.Native.Nat.{ℕ, _+_, _^_, _≤_, _<_}

@@ -35,7 +35,7 @@ rule-at t c i e hc hi =
 
 -- what an entry says
 module _ (e c i : ℕ) (is : e ≡ entryOf c i) where
-  pub entry-unfit : 60 < e → isFit c i ≡ false
+  pub entry-unfit : 64 ≤ e → isFit c i ≡ false
   unfolding entryOf
   entry-unfit h = by-fit (isFit c i) is
     where
@@ -43,7 +43,7 @@ module _ (e c i : ℕ) (is : e ≡ entryOf c i) where
       by-fit true x = absurd (omega (arith, parcels-few c _ refl))
       by-fit false x = refl
 
-  pub entry-fit : e ≤ 60 → (isFit c i ≡ true) × (e ≡ 15 * parcelsOf c)
+  pub entry-fit : e < 64 → (isFit c i ≡ true) × (e ≡ 15 * parcelsOf c)
   unfolding entryOf
   entry-fit h = by-fit (isFit c i) is
     where

@@ -129,7 +129,7 @@ module _ (r : List ℕ) (q : Instruction) (w : Wide r) (f : Fit q) where
       tt
 
 -- the effect of a code by its number, which picks the row and the entry
-pub effect-by-code : (r : List ℕ) (q : Instruction) (p c : ℕ) → q .code ≡ c → effectOf r q p ≡ getD (rows r q (c % 8) p) (c / 8) leftOut
+effect-by-code : (r : List ℕ) (q : Instruction) (p c : ℕ) → q .code ≡ c → effectOf r q p ≡ getD (rows r q (c % 8) p) (c / 8) leftOut
 unfolding effectOf
 effect-by-code r q p c e = rw e
 

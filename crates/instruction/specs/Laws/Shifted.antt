@@ -6,7 +6,7 @@ use native.Mathlib.Omega.{arith}
 use borrow.Author.Tests.{lt-ltb}
 use lib.Pow.{shr-mod, pow-pos, shr-lt}
 use Rattle.word.specs.Bits.{bits}
-use Rattle.word.specs.Laws.Bits.{bits-lt, bits-of-bits, bits-raised, raised-on}
+use Rattle.word.specs.Laws.Bits.{bits-lt, bits-of-bits, bits-shifted-left, shifted-left-twice}
 use Rattle.instruction.specs.Parcels.{parcel}
 use Rattle.instruction.specs.Instruction.{constantAt, decoded}
 use Rattle.instruction.specs.Shifted.{shiftedTo, decodedTop}
@@ -22,7 +22,7 @@ module _ (w place : ℕ) (h : place < 4) where
   top-parcel : (g c : ℕ) → g + c ≤ 15 → bits (shiftedTo w place) (49 + g) c ≡ bits (parcel w place) g c
   unfolding shiftedTo
   top-parcel g c l =
-      bits-raised 64 w (4 + 15 * place) (45 - 15 * place + g) (49 + g) c (omega arith) (omega arith)
+      bits-shifted-left 64 w (4 + 15 * place) (45 - 15 * place + g) (49 + g) c (omega arith) (omega arith)
       ∙ sym (bits-of-bits w (45 - 15 * place) 15 g c l)
 
   top-code : shiftedTo w place / 2 ^ 58 ≡ bits (parcel w place) 9 6
@@ -38,7 +38,7 @@ module _ (w place : ℕ) (h : place < 4) where
 top-constant : (w place : ℕ) → place < 3 → bits (shiftedTo w place) 34 18 ≡ constantAt w place
 unfolding shiftedTo constantAt
 top-constant w place h =
-    rw (lt-ltb place 3 h) (bits-raised 64 w (4 + 15 * place) (30 - 15 * place) 34 18 (omega arith) (omega arith))
+    rw (lt-ltb place 3 h) (bits-shifted-left 64 w (4 + 15 * place) (30 - 15 * place) 34 18 (omega arith) (omega arith))
 
 pub top-whole : (w place : ℕ) → place < 3 → decodedTop (shiftedTo w place) ≡ decoded w place
 unfolding decoded
@@ -70,4 +70,4 @@ pub shift-on : (w place n : ℕ) → shiftedTo w place * 2 ^ (15 * n) % 2 ^ 64 �
 unfolding shiftedTo
 shift-on w place n =
     let e : 4 + 15 * place + 15 * n ≡ 4 + 15 * (place + n) = omega arith in
-    raised-on 64 w (4 + 15 * place) (15 * n) ∙ ap (λ (x : ℕ). w * 2 ^ x % 2 ^ 64) e
+    shifted-left-twice 64 w (4 + 15 * place) (15 * n) ∙ ap (λ (x : ℕ). w * 2 ^ x % 2 ^ 64) e

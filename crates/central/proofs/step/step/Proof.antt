@@ -20,14 +20,15 @@ returns : tie.Need-returns
 returns c =
     let pre = c .before .before .before .before .pre in
     let entry-of = c .before .before .entry-of in
-    ran-unfit _ _ _ _ _ _ (pre .1 .1 .1 .1 .0) (pre .1 .1 .1 .1 .1) (entry-at-top _ _ _ (entry-of .ensures) (and-mask _ 3)) (c .if2 .taken)
+    let is = entry-at-top _ _ _ (entry-of .ensures) (and-mask _ 3) in
+    ran-unfit _ _ _ _ _ _ (pre .1 .1 .1 .1 .0) (pre .1 .1 .1 .1 .1) is (c .if2 .taken)
 
 returns-2 : tie.Need-returns-2
 returns-2 c =
     let pre = c .before .before .before .before .pre in
     let entry-of = c .before .before .entry-of in
-    let if1 = c .before .if1 in
-    ran-cut _ _ _ _ _ _ (pre .1 .1 .1 .1 .0) (pre .1 .1 .1 .1 .1) (entry-at-top _ _ _ (entry-of .ensures) (and-mask _ 3)) (c .if2 .left) (if1 .taken)
+    let is = entry-at-top _ _ _ (entry-of .ensures) (and-mask _ 3) in
+    ran-cut _ _ _ _ _ _ (pre .1 .1 .1 .1 .0) (pre .1 .1 .1 .1 .1) is (c .if2 .left) (c .before .if1 .taken)
 
 effect-of-requires : tie.Need-effect-of-requires
 effect-of-requires c κs = search needs
@@ -49,7 +50,8 @@ returns-3 c =
     let if1 = c .before .before .before .before .before .before .before .if1 in
     let effect-of = c .before .before .before .before .before .effect-of in
     let apply = c .before .before .apply in
-    ran-whole _ _ _ _ _ _ (pre .1 .1 .1 .1 .0) (pre .1 .1 .1 .1 .1) (entry-at-top _ _ _ (entry-of .ensures) (and-mask _ 3)) _ _ (if1 .left) (effect-of .ensures) (apply .ensures)
+    let is = entry-at-top _ _ _ (entry-of .ensures) (and-mask _ 3) in
+    ran-whole _ _ _ _ _ _ (pre .1 .1 .1 .1 .0) (pre .1 .1 .1 .1 .1) is _ _ (if1 .left) (effect-of .ensures) (apply .ensures)
 
 pub step-spec : {M : Type 1} → statement M
 step-spec =

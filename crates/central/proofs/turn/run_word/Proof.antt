@@ -19,8 +19,14 @@ loop-holds c = shifted-start _ _ _ _ (c .before .pre .0)
 step-requires : tie.Need-step-requires Inv-loop μ-loop
 step-requires c κs =
     let pre = c .before .before .before .before .before .pre in
-    let loop = c .before .before .before .loop in
-    (loop .inv .going .kept .wide, (record { size = loop .inv .going .kept .size; room = pre .1 .0 }, (pre .1 .1 .0, (omega (arith, pre .1 .0, pre .1 .1 .1), (omega (arith, loop .inv .total), omega (arith, loop .inv .total))))))
+    let inv = c .before .before .before .loop .inv in
+    let kept = inv .going .kept in (
+      kept .wide,
+      (
+        record { size = kept .size; room = pre .1 .0 },
+        (pre .1 .1 .0, (omega (arith, pre .1 .0, pre .1 .1 .1), (omega (arith, inv .total), omega (arith, inv .total)))),
+      ),
+    )
 
 enum-known-next : tie.Need-enum-known-next Inv-loop μ-loop
 enum-known-next c = search needs

@@ -11,16 +11,16 @@ mul-n c = search needs
 add-n : tie.Need-add-n
 add-n c = search needs
 
-element-copy-out-wide : tie.Need-element-copy-out-wide
-element-copy-out-wide c = search needs
+element-copy-out-widened : tie.Need-element-copy-out-widened
+element-copy-out-widened c = search needs
 
-wide-requires : tie.Need-wide-requires
-wide-requires c κs = search needs
+widened-requires : tie.Need-widened-requires
+widened-requires c κs = search needs
 
 returns : tie.Need-returns
 returns c =
     let pre = c .before .before .pre in
-    c .wide .ensures ∙ rule-at _ _ _ (pre .0) (pre .1 .0) (pre .1 .1)
+    c .widened .ensures ∙ rule-at _ _ _ (pre .0) (pre .1 .0) (pre .1 .1)
 
 pub entry-of-spec : {M : Type 1} → statement M
-entry-of-spec = tie.close (tie.spec mul-n add-n element-copy-out-wide wide-requires returns)
+entry-of-spec = tie.close (tie.spec mul-n add-n element-copy-out-widened widened-requires returns)

@@ -9,7 +9,11 @@ processors-turn-requires : tie.Need-processors-turn-requires
 processors-turn-requires c κs = search needs
 
 central-turn-requires : tie.Need-central-turn-requires
-central-turn-requires c κs = let o = after-kept _ (c .before .before .before .before .before .before .before .before .before .before .before .before .before .before .pre .1 .0) (machine _ _ _ _) (c .before .before .before .before .before .before .before .before .before .before .before .before .before .before .pre .0) (machine _ _ _ _) (c .before .before .before .before .before .before .before .processors-turn .ensures) in (o .host, (o .count, c .before .before .before .before .before .before .before .before .before .before .before .before .before .before .pre .1 .1))
+central-turn-requires c κs =
+    let pre = c .before .before .before .before .before .before .before .before .before .before .before .before .before .before .pre in
+    let processors-turn = c .before .before .before .before .before .before .before .processors-turn in
+    let o = after-kept _ (pre .1 .0) (machine _ _ _ _) (pre .0) (machine _ _ _ _) (processors-turn .ensures) in
+    (o .host, (o .count, pre .1 .1))
 
 tick-requires : tie.Need-tick-requires
 tick-requires c κs =

@@ -2,6 +2,7 @@
 use mathlib.Core.Path.{sym, _∙_}
 use Prim.Native.Nat.{_-_}
 use native.Mathlib.Omega.{arith}
+use borrow.Author.Needs.{needs}
 use Rattle.machine.specs.Machine.{machine}
 use Rattle.rounds.specs.Laws.Rounds.{Going, going-start, going-stop, going-on, going-end}
 use Rattle.rounds.proofs.round.run.Statement.{statement}
@@ -14,7 +15,7 @@ abbrev μ-loop : tie.MeasureT-loop
 μ-loop m₀ c₀ x₀ s₀ k n t made₀ m c x s made = n - made
 
 table-requires : tie.Need-table-requires Inv-loop μ-loop
-table-requires c κs = tt
+table-requires c κs = search needs
 
 loop-holds : tie.Need-loop-holds Inv-loop μ-loop
 loop-holds c = going-start _ _ (machine _ _ _ _) (c .before .before .before .pre .0)
