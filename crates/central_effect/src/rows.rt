@@ -53,7 +53,6 @@ pub(crate) fn shift(r: &[u64; 24], v: u64, m: u64) -> Effect
 // Codes 30 to 37.
 pub(crate) fn sum(r: &[u64; 24], v: u64, m: u64) -> Effect
     requires { ⌜ Wide (now r) ⌝ }
-    requires { ⌜ m < 8 ⌝ }
     ensures { λ e. ⌜ e ≡ sumOf (now (r .entry)) (decodedTop v) m ⌝ }
 {
     let q = decode(v);
@@ -63,7 +62,6 @@ pub(crate) fn sum(r: &[u64; 24], v: u64, m: u64) -> Effect
 // Codes 40 to 47.
 pub(crate) fn mask_or_count(r: &[u64; 24], v: u64, m: u64) -> Effect
     requires { ⌜ Wide (now r) ⌝ }
-    requires { ⌜ m < 8 ⌝ }
     ensures { λ e. ⌜ e ≡ maskOrCountOf (now (r .entry)) (decodedTop v) m ⌝ }
 {
     let q = decode(v);
