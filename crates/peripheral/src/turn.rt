@@ -4,7 +4,7 @@ ghost use Prim.Native.Nat.{_<_};
 ghost use Rattle.machine.specs.Machine.{machine};
 ghost use Rattle.machine.specs.Widths.{Kept};
 ghost use Rattle.peripheral.specs.Turn.{turnOf};
-use super::effect::effect_of;
+use super::listing::effect_of;
 use machine::apply::apply;
 use machine::numbers::processor_of;
 

@@ -8,7 +8,7 @@ ghost use Rattle.processors.specs.Processors.{processorTurned, processor
 use peripheral::turn::turn;
 
 // Processor n: its own 4,096 words alone are lent to its turn.
-pub fn processor_turn(m: &mut [u16], c: &mut [u64], x: &mut [u64; 24], s: &mut [u64; 84], n: usize)
+fn processor_turn(m: &mut [u16], c: &mut [u64], x: &mut [u64; 24], s: &mut [u64; 84], n: usize)
     requires { ⌜ Kept (length (now m)) (machine (now m) (now c) (now x) (now s)) ⌝ }
     requires { ⌜ (n * 4096 + 4096 ≤ length (now m)) × (n < 10) ⌝ }
     ensures { λ o. ⌜ machine (now (m .exit)) (now (c .exit)) (now (x .exit)) (now (s .exit))
@@ -19,16 +19,25 @@ pub fn processor_turn(m: &mut [u16], c: &mut [u64], x: &mut [u64; 24], s: &mut [
     turn(&mut m[start..end], &mut *c, &mut *x, &mut *s, n);
 }
 
-// All k processors, in rising number.
-pub fn processors_turn(m: &mut [u16], c: &mut [u64], x: &mut [u64; 24], s: &mut [u64; 84], k: usize)
-    requires { ⌜ Kept (k * 4096) (machine (now m) (now c) (now x) (now s)) ⌝ }
-    requires { ⌜ k ≤ 10 ⌝ }
+// So many processors from the first on, in rising number. One alone is asked for here too: with a second place that calls `processor_turn`
+// the compiler would not inline it, and rounds would be slower.
+pub fn processors_turn(
+    m: &mut [u16],
+    c: &mut [u64],
+    x: &mut [u64; 24],
+    s: &mut [u64; 84],
+    first: usize,
+    count: usize,
+)
+    requires { ⌜ Kept (length (now m)) (machine (now m) (now c) (now x) (now s)) ⌝ }
+    requires { ⌜ ((first + count) * 4096 ≤ length (now m)) × (first + count ≤ 10) ⌝ }
     ensures { λ o. ⌜ machine (now (m .exit)) (now (c .exit)) (now (x .exit)) (now (s .exit))
-        ≡ processorsTurned k 0 (machine (now (m .entry)) (now (c .entry)) (now (x .entry)) (now (s .entry))) ⌝ }
+        ≡ processorsTurned count first (machine (now (m .entry)) (now (c .entry)) (now (x .entry)) (now (s .entry))) ⌝ }
 {
-    let mut left = k;
+    let end = first + count;
+    let mut left = count;
     while 0 < left {
-        processor_turn(&mut *m, &mut *c, &mut *x, &mut *s, k - left);
+        processor_turn(&mut *m, &mut *c, &mut *x, &mut *s, end - left);
         left = left - 1;
     }
 }

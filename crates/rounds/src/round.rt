@@ -60,7 +60,7 @@ fn round(
     ensures { λ o. ⌜ machine (now (m .exit)) (now (c .exit)) (now (x .exit)) (now (s .exit))
         ≡ roundOf k (machine (now (m .entry)) (now (c .entry)) (now (x .entry)) (now (s .entry))) ⌝ }
 {
-    processors_turn(&mut *m, &mut *c, &mut *x, &mut *s, k);
+    processors_turn(&mut *m, &mut *c, &mut *x, &mut *s, 0, k);
     central_turn(&mut *c, &mut *x, &mut *s, t);
     tick(&mut *s);
 }

@@ -12,7 +12,7 @@ use machine_record::record::MachineRecord;
 use machine_verdict::verdict::run_verdict;
 use machine_verdict::verdict::turn_verdict;
 use outcome::refusal::Verdict;
-use processors::processors::processor_turn;
+use processors::processors::processors_turn;
 use rounds::round;
 
 // The verdict and the record.
@@ -42,7 +42,7 @@ fn turn(c: &mut [u64], m: &mut [u16], r: MachineRecord, n: u64) -> MachineRecord
     let central = r.central;
     let mut x = central.registers;
     let mut s = numbers_of(r);
-    processor_turn(&mut *m, &mut *c, &mut x, &mut s, n as usize);
+    processors_turn(&mut *m, &mut *c, &mut x, &mut s, n as usize, 1);
     record_of(&x, &s)
 }
 

@@ -1,7 +1,7 @@
 -- The effect of every instruction names places that are there, and values of their widths. c is the central memory. Assumes nothing.
 use mathlib.Core.List.{List}
 use mathlib.Core.Path.{_≡_, refl}
-use Prim.Native.Nat.{ℕ, _+_, _-_, _^_, _<_}
+use Prim.Native.Nat.{ℕ, _+_, _-_, _/_, _%_, _^_, _<_}
 use native.Mathlib.Omega.{arith}
 use borrow.Author.Tests.{ltb-true}
 use lib.Dec.{ltb}
@@ -109,3 +109,16 @@ module _ (m c s : List ℕ) (q : Processor) (h : Memory m) (w : Wide s) (p : cen
 
 pub effect-sound : (m c s : List ℕ) (q : Processor) → Memory m → Wide s → centralP s < 2 ^ 18 → Held q → Sound c (effectOf m c s q)
 effect-sound m c s q h w p g = effect-from-sound m c s q h w p g (word m (q .p))
+
+-- the two digits of a code
+first-digit : (w k : ℕ) → w / 64 % 64 ≡ k → w / 512 % 8 ≡ k / 8
+first-digit w k e = omega (arith, e)
+
+second-digit : (w k : ℕ) → w / 64 % 64 ≡ k → w / 64 % 8 ≡ k % 8
+second-digit w k e = omega (arith, e)
+
+-- the effect of a code by its number, which picks the row and the entry
+pub effect-by-code : (m c s : List ℕ) (q : Processor) (w k : ℕ) → w / 64 % 64 ≡ k
+    → effectFrom m c s q w ≡ getD (rows m c s q (k % 8) (low 6 w)) (k / 8) leftOut
+unfolding effectFrom
+effect-by-code m c s q w k e = rw (first-digit w k e, second-digit w k e)

@@ -74,40 +74,49 @@ module _ (k : ℕ) (few : k ≤ 10) where
       ∙ processor-length (k * 4096) n h (omega arith) kept (omega arith)
 
 -- the state of the loop: the last processors, as many as are left, give what all of them give
-pub record Going (k : ℕ) (h₀ h : Machine) (left : ℕ) : Type 0 where
-  pub kept : Kept (k * 4096) h
+pub record Going (size first count : ℕ) (h₀ h : Machine) (left : ℕ) : Type 0 where
+  pub kept : Kept size h
   pub long : length (h .central) ≡ length (h₀ .central)
-  pub most : left ≤ k
-  pub is : processorsTurned left (k - left) h ≡ processorsTurned k 0 h₀
+  pub most : left ≤ count
+  pub is : processorsTurned left (first + count - left) h ≡ processorsTurned count first h₀
 
-pub going-start : (k : ℕ) (h : Machine) → Kept (k * 4096) h → Going k h h k
-going-start k h kept =
-    let e : k - k ≡ 0 = omega arith in
-    record { kept = kept; long = refl; most = omega arith; is = ap (λ (n : ℕ). processorsTurned k n h) e }
+pub going-start : (size first count : ℕ) (h : Machine) → Kept size h → Going size first count h h count
+going-start size first count h kept =
+    let e : first + count - count ≡ first = omega arith in
+    record { kept = kept; long = refl; most = omega arith; is = ap (λ (n : ℕ). processorsTurned count n h) e }
 
-module _ (k : ℕ) (h₀ h : Machine) (left : ℕ) (g : Going k h₀ h left) where
-  none-left : (j : ℕ) → j ≡ 0 → h ≡ processorsTurned j (k - left) h
+module _ (size first count : ℕ) (h₀ h : Machine) (left : ℕ) (g : Going size first count h₀ h left) where
+  none-left : (j : ℕ) → j ≡ 0 → h ≡ processorsTurned j (first + count - left) h
   unfolding processorsTurned
   none-left zero e = refl
   none-left (suc j) e = absurd (omega arith)
 
-  pub going-end : left ≤ 0 → h ≡ processorsTurned k 0 h₀
+  pub going-end : left ≤ 0 → h ≡ processorsTurned count first h₀
   going-end l = none-left left (omega arith) ∙ g .is
 
-  module _ (few : k ≤ 10) (l : 0 < left) (o : Machine) (e : o ≡ processorTurned h (k - left)) where
-    next : (j : ℕ) → left ≡ suc j → processorsTurned left (k - left) h ≡ processorsTurned j (k - j) (processorTurned h (k - left))
+  module _ (room : (first + count) * 4096 ≤ size) (few : first + count ≤ 10) (l : 0 < left) (o : Machine)
+      (e : o ≡ processorTurned h (first + count - left)) where
+    next : (j : ℕ) → left ≡ suc j
+        → processorsTurned left (first + count - left) h ≡ processorsTurned j (first + count - j) (processorTurned h (first + count - left))
     unfolding processorsTurned
     next j a =
         let m = g .most in
-        let b : k - left + 1 ≡ k - j = omega arith in
-        ap (λ (x : ℕ). processorsTurned x (k - left) h) a ∙ ap (λ (n : ℕ). processorsTurned j n (processorTurned h (k - left))) b
+        let b : first + count - left + 1 ≡ first + count - j = omega arith in
+        ap (λ (x : ℕ). processorsTurned x (first + count - left) h) a
+        ∙ ap (λ (n : ℕ). processorsTurned j n (processorTurned h (first + count - left))) b
 
-    pub going-on : Going k h₀ o (left - 1)
+    pub going-on : Going size first count h₀ o (left - 1)
     going-on =
         let m = g .most in
+        let n = first + count - left in
         record {
-          kept = subst (Kept (k * 4096)) (sym e) (processor-keeps (k * 4096) (k - left) h (omega arith) (g .kept) (omega arith));
-          long = ap (λ (x : Machine). length (x .central)) e ∙ processor-length (k * 4096) (k - left) h (omega arith) (g .kept) (omega arith) ∙ g .long;
+          kept = subst (Kept size) (sym e) (processor-keeps size n h (omega arith) (g .kept) (omega arith));
+          long = ap (λ (x : Machine). length (x .central)) e ∙ processor-length size n h (omega arith) (g .kept) (omega arith) ∙ g .long;
           most = omega arith;
-          is = ap (processorsTurned (left - 1) (k - (left - 1))) e ∙ sym (next (left - 1) (omega arith)) ∙ g .is;
+          is = ap (processorsTurned (left - 1) (first + count - (left - 1))) e ∙ sym (next (left - 1) (omega arith)) ∙ g .is;
         }
+
+-- one processor alone
+pub one-processor : (n : ℕ) (h : Machine) → processorsTurned 1 n h ≡ processorTurned h n
+unfolding processorsTurned
+one-processor n h = refl

@@ -17,7 +17,7 @@ use Rattle.machine.specs.Widths.{Kept}
 use Rattle.machine.specs.Laws.Widths.{clock-short}
 use Rattle.rounds.specs.Rounds.{centralTurnOf, ticked, roundEnded, afterProcessors, roundOf, isStopped, allStopped, Run, ran, roundsBefore, roundsOf}
 use Rattle.processors.specs.Processors.{processorsTurned}
-use Rattle.processors.specs.Laws.Processors.{processors-keep, processors-length}
+use Rattle.processors.specs.Laws.Processors.{own-size, processors-keep, processors-length}
 use Rattle.rounds.specs.Laws.Central.{CentralKept, central-keeps, tick-wide, tick-places, tick-central}
 
 -- what the end of a round keeps
@@ -48,6 +48,11 @@ unfolding roundOf
 round-length k few h kept =
     central-kept (k * 4096) (processorsTurned k 0 h) (processors-keep k few k 0 (omega arith) h kept) .long
     ∙ processors-length k few k 0 (omega arith) h kept
+
+-- all k processors are there
+pub all-ready : (k : ℕ) → k ≤ 10 → (h : Machine) → Kept (k * 4096) h
+    → Kept (length (h .peripheral)) h × (((0 + k) * 4096 ≤ length (h .peripheral)) × (0 + k ≤ 10))
+all-ready k few h kept = (own-size (k * 4096) h kept, (omega (arith, kept .size), omega arith))
 
 -- a round by its three parts
 module _ (k : ℕ) (few : k ≤ 10) (h : Machine) (kept : Kept (k * 4096) h) (o : Machine) (e : o ≡ processorsTurned k 0 h) where

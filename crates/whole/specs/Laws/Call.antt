@@ -15,8 +15,8 @@ use Rattle.machine_verdict.specs.Verdict.{processorsIn, machineVerdict, turnVer
 use Rattle.machine_verdict.specs.Laws.Verdict.{turn-accepted, run-accepted, processors-few, machine-kept, lent-again}
 use Rattle.machine_record.specs.declared.record.MachineRecord.{MachineRecord}
 use Rattle.rounds.specs.Rounds.{ran, roundsOf}
-use Rattle.processors.specs.Processors.{processorTurned}
-use Rattle.processors.specs.Laws.Processors.{processor-keeps, own-size}
+use Rattle.processors.specs.Processors.{processorTurned, processorsTurned}
+use Rattle.processors.specs.Laws.Processors.{processor-keeps, own-size, one-processor}
 use Rattle.rounds.specs.Laws.Rounds.{run-keeps}
 use Rattle.whole.specs.Call.{Left, left, leftBy, leftAfter, answerBy}
 
@@ -40,7 +40,7 @@ module _ (c m : List ℕ) (r : MachineRecord) where
     ready a count = subst (λ (t : List ℕ). Kept (processorsIn m * 4096) (lent t)) (sym e) (machine-kept c m r a count)
 
     pub turn-ready : (n : ℕ) → turnVerdict c m r n ≡ Call.Accepted → length (r .central .registers) ≡ 24
-        → Kept (length m) (lent s) × ((n * 4096 + 4096 ≤ length m) × (n < 10))
+        → Kept (length m) (lent s) × (((n + 1) * 4096 ≤ length m) × (n + 1 ≤ 10))
     turn-ready n v count =
         let a = turn-accepted c m r n v in
         let kept = ready (a .1) count in (
@@ -48,11 +48,11 @@ module _ (c m : List ℕ) (r : MachineRecord) where
           (omega (arith, a .0, kept .size), omega (arith, a .0, processors-few c m r (a .1) .1)),
         )
 
-    pub turn-is : (n : ℕ) (h : Machine) → h ≡ processorTurned (lent s) n → (o : MachineRecord) → o ≡ recordOf (h .registers) (h .numbers)
+    pub turn-is : (n : ℕ) (h : Machine) → h ≡ processorsTurned 1 n (lent s) → (o : MachineRecord) → o ≡ recordOf (h .registers) (h .numbers)
         → left (h .central) (h .peripheral) o ≡ leftBy (processorTurned (machineOf c m r) n)
     turn-is n h t o w =
         ap (left (h .central) (h .peripheral)) w
-        ∙ ap leftBy (t ∙ ap (λ (l : List ℕ). processorTurned (lent l) n) e)
+        ∙ ap leftBy (t ∙ one-processor n (lent s) ∙ ap (λ (l : List ℕ). processorTurned (lent l) n) e)
 
     pub run-ready : (n : ℕ) → runVerdict c m r n ≡ Call.Accepted → length (r .central .registers) ≡ 24
         → Kept (processorsIn m * 4096) (lent s) × (processorsIn m ≤ 10)

@@ -1,19 +1,22 @@
 -- `processors::processors::processors_turn` meets its contract. Assumes nothing.
-use mathlib.Core.Path.{sym, _∙_}
 use native.Mathlib.Omega.{arith}
+use lib.ListN.{length}
 use Rattle.machine.specs.Machine.{machine}
 use Rattle.processors.specs.Laws.Processors.{own-size, Going, going-start, going-on, going-end}
 use Rattle.processors.proofs.processors.processors_turn.Statement.{statement}
 use Rattle.processors.proofs.processors.processors_turn.Tie as tie
 
 abbrev Inv-loop : tie.InvT-loop
-Inv-loop m₀ c₀ x₀ s₀ k left₀ m c x s left = Going k (machine m₀ c₀ x₀ s₀) (machine m c x s) left
+Inv-loop m₀ c₀ x₀ s₀ first count end left₀ m c x s left = Going (length m₀) first count (machine m₀ c₀ x₀ s₀) (machine m c x s) left
 
 abbrev μ-loop : tie.MeasureT-loop
-μ-loop m₀ c₀ x₀ s₀ k left₀ m c x s left = left
+μ-loop m₀ c₀ x₀ s₀ first count end left₀ m c x s left = left
+
+add-end : tie.Need-add-end Inv-loop μ-loop
+add-end c = omega (arith, c .before .before .pre .1 .1)
 
 loop-holds : tie.Need-loop-holds Inv-loop μ-loop
-loop-holds c = going-start _ (machine _ _ _ _) (c .before .before .pre .0)
+loop-holds c = going-start _ _ _ (machine _ _ _ _) (c .before .before .pre .0)
 
 sub-processor-turn : tie.Need-sub-processor-turn Inv-loop μ-loop
 sub-processor-turn c = omega (arith, c .before .before .before .before .loop-test .taken, c .before .before .before .before .before .loop .inv .most)
@@ -25,8 +28,8 @@ processor-turn-requires c κs =
     let loop-test = c .before .before .before .before .loop-test in (
       own-size _ (machine _ _ _ _) (loop .inv .kept),
       (
-        omega (arith, loop-test .taken, loop .inv .most, loop .inv .kept .size),
-        omega (arith, loop-test .taken, loop .inv .most, pre .1),
+        omega (arith, loop-test .taken, loop .inv .most, loop .inv .kept .size, pre .1 .0),
+        omega (arith, loop-test .taken, loop .inv .most, pre .1 .1),
       ),
     )
 
@@ -42,16 +45,16 @@ loop-again c =
     let loop = c .before .before .before .before .before .before .before .before .before .before .loop in
     let loop-test = c .before .before .before .before .before .before .before .before .before .loop-test in
     let processor-turn = c .before .before .before .before .processor-turn in
-    going-on _ (machine _ _ _ _) (machine _ _ _ _) _ (loop .inv) (pre .1) (loop-test .taken) (machine _ _ _ _) (processor-turn .ensures)
+    going-on _ _ _ (machine _ _ _ _) (machine _ _ _ _) _ (loop .inv) (pre .1 .0) (pre .1 .1) (loop-test .taken) (machine _ _ _ _) (processor-turn .ensures)
 
 same-length : tie.Need-same-length Inv-loop μ-loop
-same-length c = c .before .loop .inv .kept .size ∙ sym (c .before .before .before .before .pre .0 .size)
+same-length c = c .before .loop .inv .kept .size
 
 same-length-2 : tie.Need-same-length-2 Inv-loop μ-loop
 same-length-2 c = c .before .loop .inv .long
 
 returns : tie.Need-returns Inv-loop μ-loop
-returns c = going-end _ (machine _ _ _ _) (machine _ _ _ _) _ (c .before .loop .inv) (c .loop-test .left)
+returns c = going-end _ _ _ (machine _ _ _ _) (machine _ _ _ _) _ (c .before .loop .inv) (c .loop-test .left)
 
 pub processors-turn-spec : {M : Type 1} → statement M
 processors-turn-spec =
@@ -59,6 +62,7 @@ processors-turn-spec =
     (tie.spec
     Inv-loop
     μ-loop
+    add-end
     loop-holds
     sub-processor-turn
     processor-turn-requires

@@ -1,12 +1,14 @@
 -- `rounds::round::round` meets its contract. Assumes nothing.
 use Rattle.machine.specs.Machine.{machine, centralSide}
-use Rattle.rounds.specs.Laws.Rounds.{after-kept, clock-kept, round-is}
+use Rattle.rounds.specs.Laws.Rounds.{all-ready, after-kept, clock-kept, round-is}
 use borrow.Author.Needs.{needs}
 use Rattle.rounds.proofs.round.round.Statement.{statement}
 use Rattle.rounds.proofs.round.round.Tie as tie
 
 processors-turn-requires : tie.Need-processors-turn-requires
-processors-turn-requires c κs = search needs
+processors-turn-requires c κs =
+    let pre = c .before .before .before .before .before .before .pre in
+    all-ready _ (pre .1 .0) (machine _ _ _ _) (pre .0)
 
 central-turn-requires : tie.Need-central-turn-requires
 central-turn-requires c κs =

@@ -8,8 +8,8 @@ use Rattle.whole.proofs.call.turn.Tie as tie
 numbers-of-requires : tie.Need-numbers-of-requires
 numbers-of-requires c κs = search needs
 
-processor-turn-requires : tie.Need-processor-turn-requires
-processor-turn-requires c κs =
+processors-turn-requires : tie.Need-processors-turn-requires
+processors-turn-requires c κs =
     let args = c .before .before .before .before .before .before .before .before .before .args in
     let pre = c .before .before .before .before .before .before .before .before .before .pre in
     let numbers-of = c .before .before .before .before .numbers-of in
@@ -28,16 +28,16 @@ returns : tie.Need-returns
 returns c =
     let args = c .before .before .before .before .before .before .before .before .before .before .before .before .before .before .before .before .before .args in
     let numbers-of = c .before .before .before .before .before .before .before .before .before .before .before .before .numbers-of in
-    let processor-turn = c .before .before .before .before .before .before .before .processor-turn in
+    let processors-turn = c .before .before .before .before .before .before .before .processors-turn in
     let record-of = c .record-of in
-    turn-is _ _ (args .r) _ (numbers-of .ensures) _ (machine _ _ _ _) (processor-turn .ensures) _ (record-of .ensures)
+    turn-is _ _ (args .r) _ (numbers-of .ensures) _ (machine _ _ _ _) (processors-turn .ensures) _ (record-of .ensures)
 
 pub turn-spec : {M : Type 1} → statement M
 turn-spec =
     tie.close
     (tie.spec
     numbers-of-requires
-    processor-turn-requires
+    processors-turn-requires
     record-of-requires
     same-length
     same-length-2

@@ -1,10 +1,10 @@
--- `peripheral::effect::seventh_row` meets its contract. Assumes nothing.
+-- `peripheral::rows::seventh_row` meets its contract. Assumes nothing.
 use borrow.Author.Needs.{needs}
 use lib.ListN.{List·getD-eq-default}
-use Rattle.peripheral.proofs.effect.seventh_row.Tie as tie
+use Rattle.peripheral.proofs.rows.seventh_row.Tie as tie
 use Rattle.word.proofs.Match.{none-le}
 use Rattle.peripheral.specs.Turn.{seventhRowOf, channelWords}
-use Rattle.peripheral.proofs.effect.seventh_row.Statement.{statement}
+use Rattle.peripheral.proofs.rows.seventh_row.Statement.{statement}
 
 input-from-requires : tie.Need-input-from-requires
 input-from-requires c κs = search needs

@@ -1,7 +1,9 @@
-// The effect of the instruction at P, by rows of the code's first digit.
+// One function for each first digit of a code, which works out the effect of its second digit k. Rows 0 and 1 are in `processor`.
 ghost use mathlib.Core.Path.{_≡_};
 ghost use Prim.Native.Nat.{_<_};
-ghost use Rattle.peripheral.specs.Turn.{secondRowOf, sixthRowOf, seventhRowOf, effectFrom, effectOf};
+ghost use Rattle.peripheral.specs.Turn.{secondRowOf, sixthRowOf, seventhRowOf};
+ghost use Rattle.processor.specs.Addresses.{word, onward, indexed};
+ghost use Rattle.processor.specs.Memory.{operationOf};
 ghost use Rattle.processor.specs.Widths.{Memory, Held};
 use machine::effect::Effect;
 use machine::numbers::Processor;
@@ -18,13 +20,18 @@ use processor::addresses::indexed;
 use processor::addresses::onward;
 use processor::addresses::read;
 use processor::constants::long_of;
-use processor::constants::short_of;
-use processor::jumps::jump_of;
 use processor::jumps::pass;
 use processor::memory::operation_of;
 
 // Code 2k.
-fn second_row(m: &[u16], c: &[u64], s: &[u64; 84], q: Processor, k: u64, d: u64) -> Effect
+pub(crate) fn second_row(
+    m: &[u16],
+    c: &[u64],
+    s: &[u64; 84],
+    q: Processor,
+    k: u64,
+    d: u64,
+) -> Effect
     requires { ⌜ Memory (now m) ⌝ }
     requires { ⌜ Held q ⌝ }
     requires { ⌜ k < 8 ⌝ }
@@ -42,8 +49,41 @@ fn second_row(m: &[u16], c: &[u64], s: &[u64; 84], q: Processor, k: u64, d: u64)
     }
 }
 
+// Code 3k: the word at d.
+pub(crate) fn direct(m: &[u16], q: Processor, k: u64, d: u64) -> Effect
+    requires { ⌜ Memory (now m) ⌝ }
+    requires { ⌜ Held q ⌝ }
+    requires { ⌜ k < 8 ⌝ }
+    requires { ⌜ d < 64 ⌝ }
+    ensures { λ e. ⌜ e ≡ operationOf (now (m .entry)) (q .a) k d (onward (q .p) 1) ⌝ }
+{
+    operation_of(m, q.a, k, d, onward(q.p, 1))
+}
+
+// Code 4k: the word at (d).
+pub(crate) fn indirect(m: &[u16], q: Processor, k: u64, d: u64) -> Effect
+    requires { ⌜ Memory (now m) ⌝ }
+    requires { ⌜ Held q ⌝ }
+    requires { ⌜ k < 8 ⌝ }
+    requires { ⌜ d < 64 ⌝ }
+    ensures { λ e. ⌜ e ≡ operationOf (now (m .entry)) (q .a) k (word (now (m .entry)) d) (onward (q .p) 1) ⌝ }
+{
+    operation_of(m, q.a, k, read(m, d), onward(q.p, 1))
+}
+
+// Code 5k: the word at m + (d).
+pub(crate) fn indexed_direct(m: &[u16], q: Processor, k: u64, d: u64) -> Effect
+    requires { ⌜ Memory (now m) ⌝ }
+    requires { ⌜ Held q ⌝ }
+    requires { ⌜ k < 8 ⌝ }
+    requires { ⌜ d < 64 ⌝ }
+    ensures { λ e. ⌜ e ≡ operationOf (now (m .entry)) (q .a) k (indexed (now (m .entry)) (q .p) d) (onward (q .p) 2) ⌝ }
+{
+    operation_of(m, q.a, k, indexed(m, q.p, d), onward(q.p, 2))
+}
+
 // Code 6k.
-fn sixth_row(m: &[u16], c: &[u64], s: &[u64; 84], q: Processor, k: u64, d: u64) -> Effect
+pub(crate) fn sixth_row(m: &[u16], c: &[u64], s: &[u64; 84], q: Processor, k: u64, d: u64) -> Effect
     requires { ⌜ Memory (now m) ⌝ }
     requires { ⌜ Held q ⌝ }
     requires { ⌜ k < 8 ⌝ }
@@ -60,7 +100,7 @@ fn sixth_row(m: &[u16], c: &[u64], s: &[u64; 84], q: Processor, k: u64, d: u64) 
 }
 
 // Code 7k.
-fn seventh_row(m: &[u16], s: &[u64; 84], q: Processor, k: u64, d: u64) -> Effect
+pub(crate) fn seventh_row(m: &[u16], s: &[u64; 84], q: Processor, k: u64, d: u64) -> Effect
     requires { ⌜ Memory (now m) ⌝ }
     requires { ⌜ Held q ⌝ }
     requires { ⌜ k < 8 ⌝ }
@@ -73,34 +113,4 @@ fn seventh_row(m: &[u16], s: &[u64; 84], q: Processor, k: u64, d: u64) -> Effect
         3 => Effect::Stop(PeripheralStop::UnfitCode),
         _ => change_on(m, s, q, k, d),
     }
-}
-
-// The instruction w at q's P.
-fn effect_from(m: &[u16], c: &[u64], s: &[u64; 84], q: Processor, w: u64) -> Effect
-    requires { ⌜ Memory (now m) ⌝ }
-    requires { ⌜ Held q ⌝ }
-    ensures { λ e. ⌜ e ≡ effectFrom (now (m .entry)) (now (c .entry)) (now (s .entry)) q w ⌝ }
-{
-    let f = w / 512 % 8;
-    let k = w / 64 % 8;
-    let d = w % 64;
-    match f {
-        0 => jump_of(m, q, k, d),
-        1 => short_of(q, k, d),
-        2 => second_row(m, c, s, q, k, d),
-        3 => operation_of(m, q.a, k, d, onward(q.p, 1)),
-        4 => operation_of(m, q.a, k, read(m, d), onward(q.p, 1)),
-        5 => operation_of(m, q.a, k, indexed(m, q.p, d), onward(q.p, 2)),
-        6 => sixth_row(m, c, s, q, k, d),
-        _ => seventh_row(m, s, q, k, d),
-    }
-}
-
-// The instruction at q's P.
-pub(crate) fn effect_of(m: &[u16], c: &[u64], s: &[u64; 84], q: Processor) -> Effect
-    requires { ⌜ Memory (now m) ⌝ }
-    requires { ⌜ Held q ⌝ }
-    ensures { λ e. ⌜ e ≡ effectOf (now (m .entry)) (now (c .entry)) (now (s .entry)) q ⌝ }
-{
-    effect_from(m, c, s, q, read(m, q.p))
 }

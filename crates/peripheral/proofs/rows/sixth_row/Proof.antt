@@ -1,10 +1,10 @@
--- `peripheral::effect::sixth_row` meets its contract. Assumes nothing.
+-- `peripheral::rows::sixth_row` meets its contract. Assumes nothing.
 use borrow.Author.Needs.{needs}
 use lib.ListN.{List·getD-eq-default}
-use Rattle.peripheral.proofs.effect.sixth_row.Tie as tie
+use Rattle.peripheral.proofs.rows.sixth_row.Tie as tie
 use Rattle.word.proofs.Match.{none-le}
 use Rattle.peripheral.specs.Turn.{sixthRowOf, centralWords}
-use Rattle.peripheral.proofs.effect.sixth_row.Statement.{statement}
+use Rattle.peripheral.proofs.rows.sixth_row.Statement.{statement}
 
 read-central-requires : tie.Need-read-central-requires
 read-central-requires c κs = search needs

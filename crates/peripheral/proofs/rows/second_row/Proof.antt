@@ -1,11 +1,11 @@
--- `peripheral::effect::second_row` meets its contract. Assumes nothing.
+-- `peripheral::rows::second_row` meets its contract. Assumes nothing.
 use mathlib.Core.Path.{_≡_}
 use native.Mathlib.Omega.{arith}
 use borrow.Author.Tests.{lt-ltb}
 use borrow.Author.Needs.{needs}
-use Rattle.peripheral.proofs.effect.second_row.Tie as tie
+use Rattle.peripheral.proofs.rows.second_row.Tie as tie
 use Rattle.peripheral.specs.Turn.{secondRowOf}
-use Rattle.peripheral.proofs.effect.second_row.Statement.{statement}
+use Rattle.peripheral.proofs.rows.second_row.Statement.{statement}
 
 long-of-requires : tie.Need-long-of-requires
 long-of-requires c κs = search needs

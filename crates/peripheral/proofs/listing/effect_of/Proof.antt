@@ -1,7 +1,7 @@
--- `peripheral::effect::effect_of` meets its contract. Assumes nothing.
+-- `peripheral::listing::effect_of` meets its contract. Assumes nothing.
 use borrow.Author.Needs.{needs}
-use Rattle.peripheral.proofs.effect.effect_of.Tie as tie
-use Rattle.peripheral.proofs.effect.effect_of.Statement.{statement}
+use Rattle.peripheral.proofs.listing.effect_of.Tie as tie
+use Rattle.peripheral.proofs.listing.effect_of.Statement.{statement}
 
 read-requires : tie.Need-read-requires
 read-requires c κs = search needs
