@@ -1,3 +1,4 @@
 -- Consequences of the definitions. Assumes nothing.
 pub mod Indexed
 pub mod Record
+pub mod Widths

@@ -94,11 +94,17 @@ pub fn all_below(m: &[u64], limit: u64) -> bool
     true
 }
 
-// Each word of memory has 60 bits.
+// Each word of memory has 60 bits. The words are joined without a way out of the loop, which the compiler makes wide instructions of.
 pub fn words_fit(m: &[u64]) -> bool
     ensures { λ r. ⌜ r ≡ wordsFit (now (m .entry)) ⌝ }
 {
-    all_below(m, 0o100000000000000000000)
+    let mut all: u64 = 0;
+    let mut i: usize = 0;
+    while i < m.len() {
+        all = all | m[i];
+        i = i + 1;
+    }
+    all < 0o100000000000000000000
 }
 
 // Number 1: central memory has 1 to 131,072 words.

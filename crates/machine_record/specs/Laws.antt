@@ -4,3 +4,4 @@ pub mod Entries
 pub mod Record
 -- the record as 84 numbers and back is the record
 pub mod Numbers
+pub mod Literal

@@ -1,8 +1,6 @@
 // The machine's record as the 84 numbers that turns work on, and back.
 ghost use mathlib.Core.Path.{_≡_};
-ghost use Prim.Native.Nat.{_<_};
-ghost use lib.ListN.{getD};
-ghost use Rattle.machine_record.specs.Numbers.{processorNumber, channelNumber, controlNumbers, numberOf, numbersOf, processorsOf, channelsOf, recordOf};
+ghost use Rattle.machine_record.specs.Numbers.{numbersOf, processorsOf, channelsOf, recordOf};
 use super::record::MachineRecord;
 use channel::record::Channel;
 use machine::numbers::Processor;
@@ -12,86 +10,120 @@ use machine::numbers::clock;
 use machine::numbers::flag;
 use machine::numbers::processor_of;
 
-// P at 0 to 9, A at 10 to 19, the stop at 20 to 29.
-fn processor_number(processors: [Processor; 10], i: usize) -> u64
-    requires { ⌜ i < 30 ⌝ }
-    ensures { λ v. ⌜ v ≡ processorNumber processors i ⌝ }
-{
-    if i < 10 {
-        let q = processors[i];
-        return q.p;
-    }
-    if i < 20 {
-        let q = processors[i - 10];
-        return q.a;
-    }
-    let q = processors[i - 20];
-    q.stop
-}
-
-// Active at 0 to 11, full at 12 to 23, the mark at 24 to 35, the word at 36 to 47.
-fn channel_number(channels: [Channel; 12], i: usize) -> u64
-    requires { ⌜ i < 48 ⌝ }
-    ensures { λ v. ⌜ v ≡ channelNumber channels i ⌝ }
-{
-    if i < 12 {
-        let c = channels[i];
-        return flag(c.active);
-    }
-    if i < 24 {
-        let c = channels[i - 12];
-        return flag(c.full);
-    }
-    if i < 36 {
-        let c = channels[i - 24];
-        return flag(c.mark);
-    }
-    let c = channels[i - 36];
-    c.word
-}
-
-// P, RA, FL, EM and the stop of the central processor, and the clock.
-fn control_number(r: MachineRecord, i: usize) -> u64
-    ensures { λ v. ⌜ v ≡ getD (controlNumbers r) i 0 ⌝ }
-{
-    match i {
-        0 => r.central.p,
-        1 => r.central.ra,
-        2 => r.central.fl,
-        3 => r.central.em,
-        4 => r.central.stop,
-        5 => r.clock,
-        _ => 0,
-    }
-}
-
-// The number at place i.
-fn number_of(r: MachineRecord, i: usize) -> u64
-    requires { ⌜ i < 84 ⌝ }
-    ensures { λ v. ⌜ v ≡ numberOf r i ⌝ }
-{
-    if i < 30 {
-        let processors = r.processors;
-        return processor_number(processors, i);
-    }
-    if i < 78 {
-        let channels = r.channels;
-        return channel_number(channels, i - 30);
-    }
-    control_number(r, i - 78)
-}
-
+// The numbers by one literal: a loop over places would copy the record for each of them.
 pub fn numbers_of(r: MachineRecord) -> [u64; 84]
     ensures { λ s. ⌜ s ≡ numbersOf r ⌝ }
 {
-    let mut s: [u64; 84] = [0; 84];
-    let mut i: usize = 0;
-    while i < 84 {
-        let value = number_of(r, i);
-        s[i] = value;
-        i = i + 1;
-    }
-    s
+    let processors = r.processors;
+    let channels = r.channels;
+    let p0 = processors[0];
+    let p1 = processors[1];
+    let p2 = processors[2];
+    let p3 = processors[3];
+    let p4 = processors[4];
+    let p5 = processors[5];
+    let p6 = processors[6];
+    let p7 = processors[7];
+    let p8 = processors[8];
+    let p9 = processors[9];
+    let c0 = channels[0];
+    let c1 = channels[1];
+    let c2 = channels[2];
+    let c3 = channels[3];
+    let c4 = channels[4];
+    let c5 = channels[5];
+    let c6 = channels[6];
+    let c7 = channels[7];
+    let c8 = channels[8];
+    let c9 = channels[9];
+    let c10 = channels[10];
+    let c11 = channels[11];
+    [
+        p0.p,
+        p1.p,
+        p2.p,
+        p3.p,
+        p4.p,
+        p5.p,
+        p6.p,
+        p7.p,
+        p8.p,
+        p9.p,
+        p0.a,
+        p1.a,
+        p2.a,
+        p3.a,
+        p4.a,
+        p5.a,
+        p6.a,
+        p7.a,
+        p8.a,
+        p9.a,
+        p0.stop,
+        p1.stop,
+        p2.stop,
+        p3.stop,
+        p4.stop,
+        p5.stop,
+        p6.stop,
+        p7.stop,
+        p8.stop,
+        p9.stop,
+        flag(c0.active),
+        flag(c1.active),
+        flag(c2.active),
+        flag(c3.active),
+        flag(c4.active),
+        flag(c5.active),
+        flag(c6.active),
+        flag(c7.active),
+        flag(c8.active),
+        flag(c9.active),
+        flag(c10.active),
+        flag(c11.active),
+        flag(c0.full),
+        flag(c1.full),
+        flag(c2.full),
+        flag(c3.full),
+        flag(c4.full),
+        flag(c5.full),
+        flag(c6.full),
+        flag(c7.full),
+        flag(c8.full),
+        flag(c9.full),
+        flag(c10.full),
+        flag(c11.full),
+        flag(c0.mark),
+        flag(c1.mark),
+        flag(c2.mark),
+        flag(c3.mark),
+        flag(c4.mark),
+        flag(c5.mark),
+        flag(c6.mark),
+        flag(c7.mark),
+        flag(c8.mark),
+        flag(c9.mark),
+        flag(c10.mark),
+        flag(c11.mark),
+        c0.word,
+        c1.word,
+        c2.word,
+        c3.word,
+        c4.word,
+        c5.word,
+        c6.word,
+        c7.word,
+        c8.word,
+        c9.word,
+        c10.word,
+        c11.word,
+        r.central.p,
+        r.central.ra,
+        r.central.fl,
+        r.central.em,
+        r.central.stop,
+        r.clock,
+    ]
 }
 
 fn processors_of(s: &[u64; 84]) -> [Processor; 10]

@@ -90,18 +90,17 @@ fn peripheral_length_fits(words: usize) -> bool
     words % 4096 == 0
 }
 
-// Each word of peripheral memory has 12 bits.
+// No word of peripheral memory is over 4,095. Joined as the central words are, in `words_fit`.
 fn short_words_fit(m: &[u16]) -> bool
     ensures { λ r. ⌜ r ≡ shortWordsFit (now (m .entry)) ⌝ }
 {
+    let mut all: u16 = 0;
     let mut i: usize = 0;
     while i < m.len() {
-        if 4095 < m[i] {
-            return false;
-        }
+        all = all | m[i];
         i = i + 1;
     }
-    true
+    all < 4096
 }
 
 // Numbers 1 to 5, lowest first. `there`: the processor whose turn is asked for is there.
