@@ -1,0 +1,65 @@
+"""What the benchmarks share: the programs that they time, and their best times by turns."""
+import subprocess
+import sys
+import tempfile
+import time
+from pathlib import Path
+
+HOME = Path(__file__).resolve().parent.parent
+
+
+def options(words, doc):
+    """The second emulator's source folder, how often each program runs, and the root of an earlier version or None."""
+    source = Path(words[0]) if words else HOME / "../shared/second"
+    times = int(words[1]) if len(words) > 1 else 9
+    earlier = Path(words[2]) if len(words) > 2 else None
+    if len(words) > 3 or not (source / "Cargo.toml").is_file():
+        sys.exit(f"no second emulator in {source}\n\n{doc}")
+    return source, times, earlier
+
+
+def programs(name, verb, source, earlier, folder):
+    """The commands by name: this version's program, the earlier one's, and the second emulator, built in the folder."""
+    commands = {"tozhenab": [HOME / "target/bin" / name]}
+    if earlier:
+        commands["earlier"] = [earlier / "target/bin" / name]
+    for command in commands.values():
+        if not command[0].is_file():
+            sys.exit(f"{command[0]} is missing: run rt check {name}, which proves and builds it")
+    build = ["cargo", "build", "--release", "--offline", "--quiet", "--target-dir", folder]
+    if subprocess.run(build, cwd=source).returncode != 0:
+        sys.exit("the second emulator was not built")
+    commands["second"] = [Path(folder) / "release/second", verb]
+    return commands
+
+
+def answer(command, path):
+    """The answer to the input in a file, and the seconds that it takes."""
+    with open(path, "rb") as stdin, tempfile.TemporaryFile() as stdout:
+        begin = time.perf_counter()
+        status = subprocess.run(command, stdin=stdin, stdout=stdout).returncode
+        taken = time.perf_counter() - begin
+        if status != 0:
+            sys.exit(f"{command[0]} failed")
+        stdout.seek(0)
+        return stdout.read(), taken
+
+
+def best(commands, path, times):
+    """The answer, which has to be that of all programs, and the best time of each, by name."""
+    runs = []
+    for _ in range(times):
+        answers = {name: answer(command, path) for name, command in commands.items()}
+        if len({text for text, _ in answers.values()}) != 1:
+            sys.exit("the answers differ")
+        runs.append({name: taken for name, (_, taken) in answers.items()})
+    text = next(iter(answers.values()))[0]
+    return text, {name: min(run[name] for run in runs) for name in commands}
+
+
+def report(what, taken, unit, digits):
+    """One line: the times by name, and the ratios of this version to the others."""
+    times = ", ".join(f"{name} {value:.{digits}f} {unit}" for name, value in taken.items())
+    others = [(name, value) for name, value in taken.items() if name != "tozhenab"]
+    ratios = ", ".join(f"{taken['tozhenab'] / value:.2f} of {name}" for name, value in others)
+    print(f"{what}: {times}; {ratios}" if others else f"{what}: {times}", flush=True)
