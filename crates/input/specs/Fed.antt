@@ -1,11 +1,11 @@
--- What the functions that read a byte promise. Assumes nothing.
+-- What the functions that read bytes promise. Assumes nothing.
 use mathlib.Core.Bool.{false}
 use mathlib.Core.List.{List}
 use mathlib.Core.Path.{_≡_}
 use Prim.Native.Nat.{ℕ, _≤_}
 use lib.ListN.{length}
 use Rattle.reading.specs.Held.{Lists, refused, Ready, Room}
-use Rattle.input.specs.Reader.{heldBy, feedTo, feedAll, atLineStart, canRead, feedingOf}
+use Rattle.input.specs.Reader.{heldBy, feedAll, atLineStart, canRead, feedingOf}
 use Rattle.input.specs.declared.reader.Reader.{Reader}
 
 -- the reader's counts are within the room of the lent memory and lists, and of the line
@@ -14,11 +14,6 @@ pub record ReaderReady (r : Reader) (m : List ℕ) (l : Lists) : Type 0 where
   pub room : Room m l
   pub begun : r .length ≤ 32
   pub long : length (r .line) ≡ 32
-
--- a byte was read
-pub record Fed (byte : ℕ) (r : Reader) (m : List ℕ) (l : Lists) (r′ : Reader) (m′ : List ℕ) (l′ : Lists) : Type 0 where
-  pub is : heldBy r′ m′ l′ ≡ feedTo (heldBy r m l) byte
-  pub ready : ReaderReady r′ m′ l′
 
 -- bytes were read
 pub record FedAll (bytes : List ℕ) (r : Reader) (m : List ℕ) (l : Lists) (r′ : Reader) (m′ : List ℕ) (l′ : Lists) : Type 0 where

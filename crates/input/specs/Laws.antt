@@ -1,3 +1,4 @@
 -- Consequences of the definitions. Assumes nothing.
+pub mod LineBytes
 pub mod Feeding
 pub mod Input

@@ -1,2 +1,3 @@
-// The console's input, read byte by byte into lent memory.
+// The console's input, read line by line into lent memory.
+mod line_bytes;
 pub mod reader;

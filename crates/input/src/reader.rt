@@ -1,8 +1,9 @@
-// Reads an input byte by byte, so that one of any length needs no more than the lent memory.
+// Reads an input line by line, so that one of any length needs no more than the lent memory.
 ghost use mathlib.Core.Path.{_≡_};
 ghost use Rattle.reading.specs.Held.{lists};
 ghost use Rattle.input.specs.Reader.{atLineStart, emptyReader, hasRoom, isReady, canRead, feedingOf, endOf, isReadable};
-ghost use Rattle.input.specs.Fed.{ReaderReady, Fed, FedAll, FedAny};
+ghost use Rattle.input.specs.Fed.{ReaderReady, FedAll, FedAny};
+use super::line_bytes::fill;
 use line::form::line_of;
 use reading::progress::JOB_ENTRIES;
 use reading::progress::Part;
@@ -43,46 +44,7 @@ pub fn start() -> Reader
     })
 }
 
-// The bytes of a line past the first 32 are not kept: it is unreadable already.
-fn feed_byte(
-    r: Reader,
-    byte: u8,
-    memory: &mut [u64],
-    jobs: &mut [u64],
-    stint_jobs: &mut [u64],
-    stint_turns: &mut [u64],
-) -> Reader
-    requires { ⌜ ReaderReady r (now memory) (lists (now jobs) (now «stint_jobs») (now «stint_turns»)) ⌝ }
-    ensures { λ o.
-        ⌜ Fed byte r (now (memory .entry)) (lists (now (jobs .entry)) (now («stint_jobs» .entry)) (now («stint_turns» .entry)))
-        o (now (memory .exit)) (lists (now (jobs .exit)) (now («stint_jobs» .exit)) (now («stint_turns» .exit))) ⌝ }
-{
-    let n = r.length;
-    let progress = r.progress;
-    let mut line = r.line;
-    if byte == b'\n' {
-        let said = line_of(&line[..n]);
-        let next = apply(
-            progress,
-            said,
-            &mut *memory,
-            &mut *jobs,
-            &mut *stint_jobs,
-            &mut *stint_turns,
-        );
-        return at_line_start(next);
-    }
-    if n < 32 {
-        line[n] = byte;
-        return Reader {
-            progress,
-            line,
-            length: n + 1,
-        };
-    }
-    r
-}
-
+// The bytes of a line are taken at once, and progress is touched once a line: so reading is fast.
 fn feed_all(
     r: Reader,
     bytes: &[u8],
@@ -96,21 +58,27 @@ fn feed_all(
         ⌜ FedAll (now (bytes .entry)) r (now (memory .entry)) (lists (now (jobs .entry)) (now («stint_jobs» .entry)) (now («stint_turns» .entry)))
         o (now (memory .exit)) (lists (now (jobs .exit)) (now («stint_jobs» .exit)) (now («stint_turns» .exit))) ⌝ }
 {
-    let mut next = r;
-    let mut i: usize = 0;
-    while i < bytes.len() {
-        let byte = bytes[i];
-        next = feed_byte(
-            next,
-            byte,
+    let mut progress = r.progress;
+    let mut line = r.line;
+    let mut filled = fill(&mut line, r.length, bytes, 0);
+    while filled.at < bytes.len() {
+        let length = filled.length;
+        let said = line_of(&line[..length]);
+        progress = apply(
+            progress,
+            said,
             &mut *memory,
             &mut *jobs,
             &mut *stint_jobs,
             &mut *stint_turns,
         );
-        i = i + 1;
+        filled = fill(&mut line, 0, bytes, filled.at + 1);
     }
-    next
+    Reader {
+        progress,
+        line,
+        length: filled.length,
+    }
 }
 
 fn has_room(memory: &[u64], jobs: &[u64], stint_jobs: &[u64], stint_turns: &[u64]) -> bool

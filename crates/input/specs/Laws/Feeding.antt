@@ -1,13 +1,13 @@
--- What a byte does to a reader, as the code tells its cases apart. Assumes nothing.
+-- What a line does to a reader, and the tests of what it may read. Assumes nothing.
 use mathlib.Core.Bool.{Bool, true, false, _&&_, cond, false≢true}
 use mathlib.Core.List.{List, [], _∷_, _++_}
-use mathlib.Core.Path.{_≡_, refl, sym, ap, subst, _∙_}
+use mathlib.Core.Path.{_≡_, refl, sym, ap, _∙_}
 use Prim.Native.Nat.{ℕ, zero, suc, _+_, _≤_, _<_}
 use native.Mathlib.Numerals.{add-one}
 use native.Mathlib.Omega.{arith}
-use borrow.Author.Tests.{eq-eqb, ne-eqb, le-leb, eqb-true, leb-true}
+use borrow.Author.Tests.{eq-eqb, le-leb, eqb-true, leb-true}
 use lib.Dec.{eqb, leb}
-use lib.ListN.{length, take, drop, getD, set, drop-of-length-le, length-set}
+use lib.ListN.{length, take, drop, getD, drop-of-length-le}
 use lib.Seq.{drop-cons}
 use Rattle.word.specs.Laws.Choice.{of-cond}
 use Rattle.word.specs.Laws.Tests.{both}
@@ -16,90 +16,80 @@ use Rattle.line.specs.declared.form.Line.{Line}
 use Rattle.reading.specs.Reading.{Request, Reading, noLine, readable, unreadable, lineTo}
 use Rattle.reading.specs.Held.{Lists, readingAt, held, refused, Ready, Room, keep, jobEntries, stintEntries}
 use Rattle.reading.specs.Applied.{Applied}
-use Rattle.reading.specs.Laws.Entries.{entry-added, entries-full}
 use Rattle.reading.specs.declared.progress.Part.{Part}
 use Rattle.reading.specs.declared.progress.Part.the-variants as Last
 use Rattle.reading.specs.declared.progress.Progress.{Progress}
 use Rattle.input.specs.Reader.{Feeding, feeding, feedTo, feedAll, atLineStart, heldBy, hasRoom, isReady, canRead, feedingOf, endOf, isReadable}
-use Rattle.input.specs.Fed.{ReaderReady, Fed, FedAll, FedAny}
+use Rattle.input.specs.LineBytes.{LineFilled}
+use Rattle.input.specs.Fed.{ReaderReady, FedAll, FedAny}
+use Rattle.input.specs.Laws.LineBytes.{feed-begun, feed-filled, line-feed-at}
+use Rattle.input.specs.declared.line_bytes.Filled.{Filled}
 use Rattle.input.specs.declared.reader.Reader.{Reader}
-
--- a byte after a line that has begun
-pub feed-begun : (line : List ℕ) (x : Reading) (byte : ℕ) → feedTo (feeding line x) byte
-    ≡ cond (eqb byte 10) (feeding [] (keep (lineTo x (lineOf line)))) (feeding (take 32 (line ++ (byte ∷ []))) x)
-unfolding feedTo lineTo
-feed-begun line noLine byte = refl
-feed-begun line (readable part q) byte = refl
-feed-begun line unreadable byte = refl
 
 pub room-same : {m m′ : List ℕ} {l l′ : Lists} → Room m l → length m′ ≡ length m → length (l′ .jobs) ≡ length (l .jobs)
     → length (l′ .stintJobs) ≡ length (l .stintJobs) → length (l′ .stintTurns) ≡ length (l .stintTurns) → Room m′ l′
 room-same k e f g h =
     record { memory = e ∙ k .memory; jobs = f ∙ k .jobs; stintJobs = g ∙ k .stintJobs; stintTurns = h ∙ k .stintTurns }
 
-module _ {r : Reader} {m : List ℕ} {l : Lists} {byte : ℕ} (k : ReaderReady r m l) where
-  pub fed-line : {m′ : List ℕ} {l′ : Lists} {p : Progress} {said : Line} {r′ : Reader} → byte ≡ 10
-      → said ≡ lineOf (take (r .length) (r .line)) → Applied said (r .progress) m l p m′ l′ → Room m′ l′
-      → r′ ≡ atLineStart p → Fed byte r m l r′ m′ l′
-  fed-line {m′} {l′} {p} {said} e f a room g =
-      subst (λ (x : Reader). Fed byte r m l x m′ l′) (sym g)
-      (record {
-        is =
-            rw (feed-begun (take (r .length) (r .line)) (held (r .progress) m l) byte, eq-eqb byte 10 e, ← f)
-            (ap (λ (x : Reading). feeding [] x) (a .is));
-        ready = record { progress = a .ready; room = room; begun = omega arith; long = refl };
-      })
-
-  pub fed-byte : (byte ≡ 10 → ⊥) → r .length < 32
-      → Fed byte r m l (record { progress = r .progress; line = set (r .line) (r .length) byte; length = r .length + 1 }) m l
-  fed-byte e h =
-      let long = length-set (r .line) (r .length) byte ∙ k .long in
-      record {
-        is =
-            rw (feed-begun (take (r .length) (r .line)) (held (r .progress) m l) byte, ne-eqb byte 10 e)
-            (ap (λ (x : List ℕ). feeding x (held (r .progress) m l)) (entry-added (r .length) 32 (r .line) byte (k .long) h));
-        ready = record { progress = k .progress; room = k .room; begun = omega arith; long = long };
-      }
-
-  pub fed-over : (byte ≡ 10 → ⊥) → 32 ≤ r .length → Fed byte r m l r m l
-  fed-over e h =
-      let same = entries-full (r .length) 32 (r .line) byte (k .long) (omega (arith, k .begun)) in
-      record {
-        is =
-            rw (feed-begun (take (r .length) (r .line)) (held (r .progress) m l) byte, ne-eqb byte 10 e)
-            (ap (λ (x : List ℕ). feeding x (held (r .progress) m l)) same);
-        ready = k;
-      }
-
--- the loop over the bytes: what is left gives what all give
-pub record FeedingOn (bytes : List ℕ) (i : ℕ) (r₀ : Reader) (m₀ : List ℕ) (l₀ : Lists) (r : Reader) (m : List ℕ) (l : Lists) : Type 0 where
-  pub is : feedAll (heldBy r m l) (drop i bytes) ≡ feedAll (heldBy r₀ m₀ l₀) bytes
+-- to read on from a line feed, or from the end, gives what reading from an earlier place gives
+pub record FeedingOn (bytes : List ℕ) (at₀ : ℕ) (r₀ : Reader) (m₀ : List ℕ) (l₀ : Lists) (at : ℕ) (r : Reader) (m : List ℕ) (l : Lists) : Type 0 where
+  pub is : feedAll (heldBy r m l) (drop at bytes) ≡ feedAll (heldBy r₀ m₀ l₀) (drop at₀ bytes)
+  pub stopped : at < length bytes → getD bytes at 0 ≡ 10
   pub ready : ReaderReady r m l
 
-pub feeding-start : {bytes : List ℕ} {r : Reader} {m : List ℕ} {l : Lists} → ReaderReady r m l → FeedingOn bytes 0 r m l r m l
-feeding-start k = record { is = refl; ready = k }
+-- the reader whose line was filled
+abbrev pub withLine : Progress → List ℕ → Filled → Reader
+withLine p line f = record { progress = p; line = line; length = f .length }
 
-next-byte : (bytes : List ℕ) (i : ℕ) (f : Feeding) → i < length bytes
-    → feedAll (feedTo f (getD bytes i 0)) (drop (i + 1) bytes) ≡ feedAll f (drop i bytes)
+-- the line that has begun was filled
+pub feeding-begun : {bytes : List ℕ} {r : Reader} {m : List ℕ} {l : Lists} {line : List ℕ} {f : Filled} → ReaderReady r m l
+    → LineFilled bytes 0 (r .line) (r .length) line f → FeedingOn bytes 0 r m l (f .at) (withLine (r .progress) line f) m l
+feeding-begun {r = r} {m} {l} k g =
+    record {
+      is = feed-filled g (held (r .progress) m l) (k .begun);
+      stopped = line-feed-at g;
+      ready = record { progress = k .progress; room = k .room; begun = g .room; long = g .long };
+    }
+
+feed-line-feed : (bytes : List ℕ) (i : ℕ) (line : List ℕ) (x : Reading) → i < length bytes → getD bytes i 0 ≡ 10
+    → feedAll (feeding [] (keep (lineTo x (lineOf line)))) (drop (i + 1) bytes) ≡ feedAll (feeding line x) (drop i bytes)
 unfolding feedAll
-next-byte bytes i f h = rw (add-one, drop-cons bytes i 0 h)
+feed-line-feed bytes i line x h e =
+    let fed : feedTo (feeding line x) (getD bytes i 0) ≡ feeding [] (keep (lineTo x (lineOf line))) =
+    feed-begun line x (getD bytes i 0)
+    ∙ ap (λ (t : Bool). cond t (feeding [] (keep (lineTo x (lineOf line)))) (feeding (take 32 (line ++ (getD bytes i 0 ∷ []))) x))
+    (eq-eqb (getD bytes i 0) 10 e) in
+    rw (add-one, drop-cons bytes i 0 h) (ap (λ (f : Feeding). feedAll f (drop (suc i) bytes)) (sym fed))
 
-no-byte : (bytes : List ℕ) (i : ℕ) (f : Feeding) → length bytes ≤ i → feedAll f (drop i bytes) ≡ f
+feed-end : (bytes : List ℕ) (i : ℕ) (f : Feeding) → length bytes ≤ i → feedAll f (drop i bytes) ≡ f
 unfolding feedAll
-no-byte bytes i f h = rw (drop-of-length-le bytes h)
+feed-end bytes i f h = rw (drop-of-length-le bytes h)
 
-module _ {bytes : List ℕ} {i : ℕ} {r₀ : Reader} {m₀ : List ℕ} {l₀ : Lists} {r : Reader} {m : List ℕ} {l : Lists}
-    (g : FeedingOn bytes i r₀ m₀ l₀ r m l) where
-  pub feeding-next : {r′ : Reader} {m′ : List ℕ} {l′ : Lists} → i < length bytes → Fed (getD bytes i 0) r m l r′ m′ l′
-      → FeedingOn bytes (i + 1) r₀ m₀ l₀ r′ m′ l′
-  feeding-next h f =
+module _ {bytes : List ℕ} {at₀ : ℕ} {r₀ : Reader} {m₀ : List ℕ} {l₀ : Lists} {at : ℕ} {r : Reader} {m : List ℕ} {l : Lists}
+    (g : FeedingOn bytes at₀ r₀ m₀ l₀ at r m l) where
+  pub feeding-here : FeedingOn bytes at r m l at r m l
+  feeding-here = record { is = refl; stopped = g .stopped; ready = g .ready }
+
+  -- the line was read, and the next one filled
+  pub feeding-next : {m′ : List ℕ} {l′ : Lists} {p : Progress} {said : Line} {line : List ℕ} {f : Filled} → at < length bytes
+      → said ≡ lineOf (take (r .length) (r .line)) → Applied said (r .progress) m l p m′ l′ → Room m′ l′
+      → LineFilled bytes (at + 1) (r .line) 0 line f → FeedingOn bytes at₀ r₀ m₀ l₀ (f .at) (withLine p line f) m′ l′
+  feeding-next {m′} {l′} {p} {said} {line} {f} h e a room k =
+      let read : held p m′ l′ ≡ keep (lineTo (held (r .progress) m l) (lineOf (take (r .length) (r .line)))) =
+      a .is ∙ ap (λ (x : Line). keep (lineTo (held (r .progress) m l) x)) e in
       record {
-        is = ap (λ (x : Feeding). feedAll x (drop (i + 1) bytes)) (f .is) ∙ next-byte bytes i (heldBy r m l) h ∙ g .is;
-        ready = f .ready;
+        is =
+            feed-filled k (held p m′ l′) (omega arith)
+            ∙ ap (λ (x : Reading). feedAll (feeding [] x) (drop (at + 1) bytes)) read
+            ∙ feed-line-feed bytes at (take (r .length) (r .line)) (held (r .progress) m l) h (g .stopped h)
+            ∙ g .is;
+        stopped = line-feed-at k;
+        ready = record { progress = a .ready; room = room; begun = k .room; long = k .long };
       }
 
-  pub feeding-end : length bytes ≤ i → FedAll bytes r₀ m₀ l₀ r m l
-  feeding-end h = record { is = sym (no-byte bytes i (heldBy r m l) h) ∙ g .is; ready = g .ready }
+  pub feeding-end : {r′ : Reader} {m′ : List ℕ} {l′ : Lists} → FeedingOn bytes 0 r′ m′ l′ at₀ r₀ m₀ l₀ → length bytes ≤ at
+      → FedAll bytes r′ m′ l′ r m l
+  feeding-end k h = record { is = sym (feed-end bytes at (heldBy r m l) h) ∙ g .is ∙ k .is; ready = g .ready }
 
 -- the tests of room and counts
 room-by-test : (m : List ℕ) (l : Lists) → hasRoom m l ≡ true → Room m l

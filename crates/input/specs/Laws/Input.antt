@@ -2,7 +2,7 @@
 use mathlib.Core.Bool.{Bool, true, false, _&&_, cond}
 use mathlib.Core.List.{List, [], _∷_, _++_}
 use mathlib.Core.Path.{_≡_, refl, ap, _∙_}
-use Prim.Native.Nat.{ℕ, zero, suc, _+_}
+use Prim.Native.Nat.{ℕ, _+_}
 use native.Mathlib.Omega.{arith}
 use lib.Dec.{eqb, leb, ltb}
 use lib.ListN.{length, take, set}
@@ -15,19 +15,13 @@ use Rattle.reading.specs.Lines.{Lines, linesAfter, linesOf}
 use Rattle.reading.specs.Reading.{Request, request, Part, afterWords, inBlock, inJobs, inStints, Reading, noLine, readable, unreadable, atTo, wordTo, jobTo, withJob, lineTo, allTo, ended, readingOf}
 use Rattle.reading.specs.Held.{firsts, keep, jobEntries, stintEntries}
 use Rattle.input.specs.Reader.{Feeding, feeding, feedTo, feedAll, nothingFed, endOf}
-use Rattle.input.specs.Laws.Feeding.{feed-begun}
+use Rattle.input.specs.Laws.LineBytes.{feed-begun, cut-more}
 
 -- bytes in two runs
 pub feed-append : (f : Feeding) (xs ys : List ℕ) → feedAll f (xs ++ ys) ≡ feedAll (feedAll f xs) ys
 unfolding feedAll
 feed-append f [] ys = refl
 feed-append f (x ∷ xs) ys = feed-append (feedTo f x) xs ys
-
--- what is cut off a list may as well be cut off once more is added
-cut-more : (n : ℕ) (l x : List ℕ) → take n (take n l ++ x) ≡ take n (l ++ x)
-cut-more zero l x = refl
-cut-more (suc n) [] x = refl
-cut-more (suc n) (a ∷ l) x = ap (λ (t : List ℕ). a ∷ t) (cut-more n l x)
 
 take-twice : (n : ℕ) (l : List ℕ) → take n (take n l) ≡ take n l
 take-twice n l = take-take n n l (omega arith)
