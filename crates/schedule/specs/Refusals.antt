@@ -12,7 +12,7 @@ use Rattle.exchange.specs.Jump.{recordAt, packageInside, packageClean, fieldIns
 use Rattle.central_record.specs.Record.{below, hostVerdict}
 use Rattle.single.specs.Order.{orElse}
 use Rattle.stint.specs.Overlap.{sharesWord}
-use Rattle.single.specs.Program.{mostTurns}
+use Rattle.single.specs.Turns.{mostTurns}
 use Rattle.schedule.specs.Schedule.{Schedule}
 
 abbrev pub mostJobs : ℕ

@@ -3,6 +3,8 @@
 pub mod Order
 -- central_turn and exchange
 pub mod Host
+-- central_turns
+pub mod Turns
 -- run_program
 pub mod Program
 pub mod Laws

@@ -2,14 +2,13 @@
 use mathlib.Core.Bool.{cond}
 use mathlib.Core.List.{List}
 use Prim.Native.Nat.{ℕ}
-use lib.Dec.{ltb}
 use Rattle.outcome.specs.declared.refusal.Refusal.the-variants as Refusal
 use Rattle.outcome.specs.declared.refusal.Verdict.the-variants as Call
 use Rattle.outcome.specs.declared.refusal.Verdict.{Verdict}
 use Rattle.exchange.specs.Jump.{recordAt, packageVerdict}
-use Rattle.central_record.specs.Record.{hostVerdict}
 use Rattle.central_record.specs.declared.record.Central.{Central}
 use Rattle.single.specs.Order.{orElse}
+use Rattle.single.specs.Turns.{turnsVerdict}
 use Rattle.stint.specs.Overlap.{sharesWord}
 use Rattle.stint.specs.Stint.{StintMemory, stintOf}
 use Rattle.single.specs.declared.program.RunAnswer.{RunAnswer}
@@ -19,18 +18,13 @@ unfoldable pub overlapVerdict : List ℕ → ℕ → Verdict
 overlapVerdict m at =
     cond (sharesWord at 16 (recordAt m at .ra) (recordAt m at .fl)) (Call.Refused Refusal.SharedWord) Call.Accepted
 
--- 8 "a stint over 65,535 turns"
-abbrev pub mostTurns : ℕ
-mostTurns = 65535
+-- 9, 10, 11, then 12
+unfoldable pub ownerVerdict : List ℕ → ℕ → Verdict
+ownerVerdict m at = orElse (packageVerdict m at) (overlapVerdict m at)
 
--- 8, then 9, 10, 11, then 12
-unfoldable pub ownerVerdict : List ℕ → ℕ → ℕ → Verdict
-ownerVerdict m at n =
-    cond (ltb mostTurns n) (Call.Refused Refusal.TooManyTurns) (orElse (packageVerdict m at) (overlapVerdict m at))
-
--- 1, 3, 5, then 8 to 12
+-- 1, 3, 5, 8, then 9 to 12
 unfoldable pub runVerdict : List ℕ → Central → ℕ → ℕ → Verdict
-runVerdict m c at n = orElse (hostVerdict m c) (ownerVerdict m at n)
+runVerdict m c at n = orElse (turnsVerdict m c n) (ownerVerdict m at)
 
 -- the memory, and the verdict with record, turns made and stop
 pub record RunAnswered : Type 0 where

@@ -1,30 +1,17 @@
 // The calls on the central record itself: one turn, one exchange jump.
 ghost use mathlib.Core.Path.{_≡_};
-ghost use Rattle.exchange.specs.Accepted.{HostAccepted};
-ghost use Rattle.single.specs.Host.{machine, turnedOnce, exchangeVerdict, answerTo, turnAnswer, exchangeAnswer};
+ghost use Rattle.single.specs.Host.{exchangeVerdict, answerTo, turnAnswer, exchangeAnswer};
+use super::turns::turns_if_running;
 use central_record::record::Central;
 use central_record::record::host_verdict;
 use exchange::jump::exchange_jump;
 use exchange::jump::package_verdict;
 use outcome::refusal::Verdict;
-use stint::field::run;
 
 // The verdict and the record.
 pub struct Answer {
     pub verdict: Verdict,
     pub central: Central,
-}
-
-// A stopped processor's turn changes nothing.
-fn turn_if_running(m: &mut [u64], c: Central) -> Central
-    requires { ⌜ HostAccepted (now m) c ⌝ }
-    ensures { λ r. ⌜ machine (now (m .exit)) r ≡ turnedOnce (now (m .entry)) c ⌝ }
-{
-    if c.stop != 0 {
-        return c;
-    }
-    let o = run(&mut *m, c, 1);
-    o.central
 }
 
 // One turn of the central processor.
@@ -33,7 +20,8 @@ pub fn central_turn(memory: &mut [u64], central: Central) -> Answer
 {
     match host_verdict(&*memory, central) {
         Verdict::Accepted => {
-            let after = turn_if_running(&mut *memory, central);
+            let o = turns_if_running(&mut *memory, central, 1);
+            let after = o.central;
             Answer {
                 verdict: Verdict::Accepted,
                 central: after,

@@ -5,8 +5,8 @@ ghost use lib.ListN.{length};
 ghost use Rattle.exchange.specs.Accepted.{PackageAccepted};
 ghost use Rattle.stint.specs.Overlap.{sharesWord};
 ghost use Rattle.single.specs.Program.{overlapVerdict, ownerVerdict, runVerdict, runTo, runAnswer};
+use super::turns::turns_verdict;
 use central_record::record::Central;
-use central_record::record::host_verdict;
 use exchange::jump::package_verdict;
 use exchange_package::package::load;
 use outcome::refusal::Refusal;
@@ -51,14 +51,11 @@ fn overlap_verdict(m: &[u64], at: usize) -> Verdict
     Verdict::Accepted
 }
 
-// Numbers 8 to 12.
-fn owner_verdict(m: &[u64], at: u64, n: u64) -> Verdict
+// Numbers 9 to 12.
+fn owner_verdict(m: &[u64], at: u64) -> Verdict
     requires { ⌜ length (now m) ≤ 131072 ⌝ }
-    ensures { λ r. ⌜ r ≡ ownerVerdict (now (m .entry)) at n ⌝ }
+    ensures { λ r. ⌜ r ≡ ownerVerdict (now (m .entry)) at ⌝ }
 {
-    if 65535 < n {
-        return Verdict::Refused(Refusal::TooManyTurns);
-    }
     match package_verdict(m, at) {
         Verdict::Accepted => overlap_verdict(m, at as usize),
         Verdict::Refused(r) => Verdict::Refused(r),
@@ -68,8 +65,8 @@ fn owner_verdict(m: &[u64], at: u64, n: u64) -> Verdict
 fn run_verdict(m: &[u64], c: Central, at: u64, n: u64) -> Verdict
     ensures { λ r. ⌜ r ≡ runVerdict (now (m .entry)) c at n ⌝ }
 {
-    match host_verdict(m, c) {
-        Verdict::Accepted => owner_verdict(m, at, n),
+    match turns_verdict(m, c, n) {
+        Verdict::Accepted => owner_verdict(m, at),
         Verdict::Refused(r) => Verdict::Refused(r),
     }
 }

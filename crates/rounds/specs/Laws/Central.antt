@@ -1,24 +1,19 @@
 -- The central processor's turn and the clock in a round. Assumes nothing.
-use mathlib.Core.Bool.{Bool, true, false}
 use mathlib.Core.List.{List}
 use mathlib.Core.Path.{_≡_, refl, sym, ap, subst, _∙_}
 use Prim.Native.Nat.{ℕ}
 use native.Mathlib.Omega.{arith}
-use borrow.Author.Tests.{ne-eqb, eqb-true}
-use lib.Dec.{eqb}
+use borrow.Author.Tests.{ne-eqb}
 use lib.ListN.{length, getD, length-set}
 use Rattle.central_state.specs.State.{state}
 use Rattle.central.specs.Turn.{Run}
 use Rattle.exchange.specs.Accepted.{HostAccepted}
-use Rattle.exchange.specs.Laws.Verdicts.{host-accepted, of-host-accepted}
 use Rattle.exchange_package.specs.Memory.{splice}
-use Rattle.central_record.specs.declared.record.Central.{Central}
 use Rattle.stint.specs.Field.{fieldRun, after, ranOn}
 use Rattle.single.specs.Host as Host
-use Rattle.stint.specs.Laws.Field.{ran-left, ran-length}
-use Rattle.single.specs.Laws.Host.{once-is, stopped-stays, turn-accepted}
+use Rattle.single.specs.Laws.Host.{once-is, stopped-stays, turned-host, turned-count, turned-length}
 use Rattle.machine.specs.Numbers.{centralOf, centralStop, withControls}
-use Rattle.machine.specs.Machine.{Machine, machine, CentralSide, centralSide}
+use Rattle.machine.specs.Machine.{CentralSide, centralSide}
 use Rattle.machine.specs.Widths.{Wide}
 use Rattle.machine.specs.Laws.Widths.{clock-ticks, wide-controls, length-controls, controls-own, central-read, central-kept-clock}
 use Rattle.rounds.specs.Rounds.{afterCentralTurn, centralTurnOf, ticked}
@@ -39,25 +34,6 @@ central-running c x s z o e s′ w =
     ap (centralSide (splice c (getD s 79 0) (getD s 80 0) (o .state .field)) (o .state .registers)) w
     ∙ ap (λ (r : Run). afterCentralTurn s (Host.machine (after c (centralOf x s) r .memory) (after c (centralOf x s) r .end .central))) e
     ∙ ap (afterCentralTurn s) (once-is c (centralOf x s) (ranOn c (centralOf x s) 1) refl z)
-
--- the registers stay 24, and central memory keeps its length
-module _ (c : List ℕ) (d : Central) (host : HostAccepted c d) (count : length (d .registers) ≡ 24) where
-  by-stop : (P : Host.Machine → Type 0) → P (Host.machine (ranOn c d 1 .memory) (ranOn c d 1 .end .central)) → P (Host.machine c d)
-      → (z : Bool) → eqb (d .stop) 0 ≡ z → P (Host.turnedOnce c d)
-  by-stop P ran still true z = subst P (once-is c d (ranOn c d 1) refl (eqb-true (d .stop) 0 z)) ran
-  by-stop P ran still false z = subst P (sym (stopped-stays c d z)) still
-
-  turned-count : length (Host.turnedOnce c d .central .registers) ≡ 24
-  unfolding ranOn
-  turned-count =
-      by-stop (λ (o : Host.Machine). length (o .central .registers) ≡ 24) (ran-left c d host count 1 .kept .wide .count) count (eqb (d .stop) 0) refl
-
-  turned-length : length (Host.turnedOnce c d .memory) ≡ length c
-  turned-length =
-      by-stop (λ (o : Host.Machine). length (o .memory) ≡ length c) (ran-length c d host count 1) refl (eqb (d .stop) 0) refl
-
-  turned-host : HostAccepted (Host.turnedOnce c d .memory) (Host.turnedOnce c d .central)
-  turned-host = host-accepted _ _ (turn-accepted c d (of-host-accepted c d host) count)
 
 -- the machine after the central turn
 pub record CentralKept (n : ℕ) (o : CentralSide) : Type 0 where

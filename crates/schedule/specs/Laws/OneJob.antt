@@ -1,7 +1,7 @@
 -- The run of one program is the schedule of one job and one stint. Assumes nothing.
 use mathlib.Core.Bool.{Bool, true, false, not, _&&_, cond}
 use mathlib.Core.List.{List, [], _∷_}
-use mathlib.Core.Path.{_≡_, refl, _∙_}
+use mathlib.Core.Path.{_≡_, refl, sym, _∙_}
 use Prim.Native.Nat.{ℕ, _≤_}
 use borrow.Author.Tests.{leb-true, leb-false, lt-ltb, le-ltb}
 use lib.Dec.{ltb, leb}
@@ -9,11 +9,14 @@ use Rattle.outcome.specs.declared.refusal.Refusal.the-variants as Refusal
 use Rattle.outcome.specs.declared.refusal.Verdict.the-variants as Call
 use Rattle.outcome.specs.declared.refusal.Verdict.{Verdict}
 use Rattle.central_record.specs.Indexed.{allBelow}
+use Rattle.central_record.specs.Record.{hostVerdict}
 use Rattle.exchange.specs.Jump.{packageVerdict, packageInside, packageClean, fieldInside}
 use Rattle.exchange.specs.Laws.Verdicts.{of-host-accepted, of-package-accepted}
 use Rattle.central_record.specs.declared.record.Central.{Central}
 use Rattle.single.specs.Order.{orElse}
-use Rattle.single.specs.Program.{mostTurns, overlapVerdict, ownerVerdict, runVerdict}
+use Rattle.single.specs.Turns.{mostTurns, turnsVerdict}
+use Rattle.single.specs.Program.{overlapVerdict, ownerVerdict, runVerdict}
+use Rattle.single.specs.Laws.Host.{or-else-assoc}
 use Rattle.stint.specs.Stint as Single
 use Rattle.schedule.specs.Refusals.{listsFit, jobsListed, turnsFit, listsVerdict, packageMeetsField, jobsApart, allApart, ownersVerdict, scheduleVerdict}
 use Rattle.schedule.specs.Schedule.{Schedule}
@@ -54,17 +57,16 @@ module _ (m : List ℕ) (at n : ℕ) where
   unfolding ownersVerdict allApart jobsApart allBelow packageVerdict overlapVerdict
   one-owner = in-order (packageInside m at) (packageClean m at) (fieldInside m at) meets
 
-  turns-tested : (fit : Bool) → leb n mostTurns ≡ fit → (later : Verdict)
-      → orElse (unlessTooMany fit) later ≡ cond (ltb mostTurns n) (Call.Refused Refusal.TooManyTurns) later
-  turns-tested true e later = rw (le-ltb mostTurns n (leb-true n mostTurns e))
-  turns-tested false e later = rw (lt-ltb mostTurns n (leb-false n mostTurns e))
+  turns-tested : (fit : Bool) → leb n mostTurns ≡ fit → unlessTooMany fit ≡ cond (ltb mostTurns n) (Call.Refused Refusal.TooManyTurns) Call.Accepted
+  turns-tested true e = rw (le-ltb mostTurns n (leb-true n mostTurns e))
+  turns-tested false e = rw (lt-ltb mostTurns n (leb-false n mostTurns e))
 
   pub one-verdict : (c : Central) → scheduleVerdict (oneJob m c at n) ≡ runVerdict m c at n
-  unfolding scheduleVerdict runVerdict ownerVerdict
-  one-verdict c = rw (one-list, one-owner, turns-tested (leb n mostTurns) refl (orElse (packageVerdict m at) (overlapVerdict m at)))
+  unfolding scheduleVerdict runVerdict turnsVerdict ownerVerdict
+  one-verdict c = rw (one-list, one-owner, turns-tested (leb n mostTurns) refl) (sym (or-else-assoc (hostVerdict m c) _ _))
 
   -- where no number refuses
   pub one-accepted : (c : Central) → Single.Accepted m c at → n ≤ mostTurns → scheduleVerdict (oneJob m c at n) ≡ Call.Accepted
-  unfolding runVerdict ownerVerdict overlapVerdict
+  unfolding runVerdict turnsVerdict ownerVerdict overlapVerdict
   one-accepted c a h =
       one-verdict c ∙ rw (of-host-accepted m c (a .host), le-ltb mostTurns n h, of-package-accepted m at (a .owner), a .apart)

@@ -17,7 +17,7 @@ use Rattle.exchange_package.specs.Package.{hasStray}
 use Rattle.central_record.specs.Record.{hostVerdict}
 use Rattle.central_record.specs.declared.record.Central.{Central}
 use Rattle.single.specs.Laws.Host.{both-accept}
-use Rattle.single.specs.Program.{mostTurns}
+use Rattle.single.specs.Turns.{mostTurns}
 use Rattle.schedule.specs.Isolation.{Accepted}
 use Rattle.schedule.specs.Refusals.{mostJobs, mostStints, listsFit, jobsListed, turnsFit, listsVerdict, everyJob, packageMeetsField, packagesMeet, fieldsMeet, jobsApart, allApart, ownersVerdict, scheduleVerdict}
 use Rattle.schedule.specs.Ready.{Ready, Listed}

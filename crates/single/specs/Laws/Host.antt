@@ -1,7 +1,7 @@
 -- The calls on the central record: by the results of their parts, and what is handed back may be lent again. Assumes nothing.
 use mathlib.Core.Bool.{Bool, true, false}
 use mathlib.Core.List.{List}
-use mathlib.Core.Path.{_≡_, refl}
+use mathlib.Core.Path.{_≡_, refl, sym, subst}
 use Prim.Native.Nat.{ℕ}
 use native.Mathlib.Omega.{arith}
 use borrow.Author.Tests.{eq-eqb, eqb-true}
@@ -19,8 +19,8 @@ use Rattle.exchange.specs.Laws.Verdicts.{host-accepted, of-host-accepted, packa
 use Rattle.central_record.specs.declared.record.Central.{Central}
 use Rattle.single.specs.Order.{orElse}
 use Rattle.stint.specs.Field.{boundsOf, RanMemory, ranOn}
-use Rattle.stint.specs.Laws.Field.{ran-accepted}
-use Rattle.single.specs.Host.{machine, turnedOnce, exchangeVerdict}
+use Rattle.stint.specs.Laws.Field.{ran-left, ran-length, ran-accepted}
+use Rattle.single.specs.Host.{Machine, machine, turnedOnce, exchangeVerdict}
 
 -- one turn of a running processor
 pub once-is : (m : List ℕ) (c : Central) (o : RanMemory) → o ≡ ranOn m c 1 → c .stop ≡ 0 → machine (o .memory) (o .end .central) ≡ turnedOnce m c
@@ -38,6 +38,11 @@ pub both-accept : (v w : Verdict) → orElse v w ≡ Call.Accepted → (v ≡ Ca
 both-accept Call.Accepted w e = (refl, e)
 both-accept (Call.Refused r) w e = let z : _≡_ {A = ℕ} 0 1 = cc in absurd (omega arith)
 
+-- refusals in order, two by two
+pub or-else-assoc : (u v w : Verdict) → orElse (orElse u v) w ≡ orElse u (orElse v w)
+or-else-assoc Call.Accepted v w = refl
+or-else-assoc (Call.Refused r) v w = refl
+
 module _ (m : List ℕ) (c : Central) (at : ℕ) (e : exchangeVerdict m c at ≡ Call.Accepted) where
   parts : (hostVerdict m c ≡ Call.Accepted) × (packageVerdict m at ≡ Call.Accepted)
   unfolding exchangeVerdict
@@ -50,12 +55,23 @@ module _ (m : List ℕ) (c : Central) (at : ℕ) (e : exchangeVerdict m c at ≡
   exchange-owner = package-accepted m at (parts .1)
 
 -- a turn, of a running processor or of a stopped one, leaves what the host may lend again: widths, lengths, RA, FL, EM and B0 are kept
-module _ (m : List ℕ) (c : Central) (host : hostVerdict m c ≡ Call.Accepted) (count : length (c .registers) ≡ 24) where
-  accepted-after : (z : Bool) → eqb (c .stop) 0 ≡ z → hostVerdict (turnedOnce m c .memory) (turnedOnce m c .central) ≡ Call.Accepted
-  accepted-after true z =
-      rw (← once-is m c (ranOn m c 1) refl (eqb-true (c .stop) 0 z))
-      (of-host-accepted (ranOn m c 1 .memory) (ranOn m c 1 .end .central) (ran-accepted m c (host-accepted m c host) count 1))
-  accepted-after false z = rw (stopped-stays m c z) host
+module _ (m : List ℕ) (c : Central) (l : HostAccepted m c) (count : length (c .registers) ≡ 24) where
+  by-stop : (P : Machine → Type 0) → P (machine (ranOn m c 1 .memory) (ranOn m c 1 .end .central)) → P (machine m c)
+      → (z : Bool) → eqb (c .stop) 0 ≡ z → P (turnedOnce m c)
+  by-stop P ran still true z = subst P (once-is m c (ranOn m c 1) refl (eqb-true (c .stop) 0 z)) ran
+  by-stop P ran still false z = subst P (sym (stopped-stays m c z)) still
 
-  pub turn-accepted : hostVerdict (turnedOnce m c .memory) (turnedOnce m c .central) ≡ Call.Accepted
-  turn-accepted = accepted-after (eqb (c .stop) 0) refl
+  pub turned-host : HostAccepted (turnedOnce m c .memory) (turnedOnce m c .central)
+  turned-host = by-stop (λ (h : Machine). HostAccepted (h .memory) (h .central)) (ran-accepted m c l count 1) l (eqb (c .stop) 0) refl
+
+  pub turned-count : length (turnedOnce m c .central .registers) ≡ 24
+  unfolding ranOn
+  turned-count =
+      by-stop (λ (h : Machine). length (h .central .registers) ≡ 24) (ran-left m c l count 1 .kept .wide .count) count (eqb (c .stop) 0) refl
+
+  pub turned-length : length (turnedOnce m c .memory) ≡ length m
+  turned-length = by-stop (λ (h : Machine). length (h .memory) ≡ length m) (ran-length m c l count 1) refl (eqb (c .stop) 0) refl
+
+pub turn-accepted : (m : List ℕ) (c : Central) → hostVerdict m c ≡ Call.Accepted → length (c .registers) ≡ 24
+    → hostVerdict (turnedOnce m c .memory) (turnedOnce m c .central) ≡ Call.Accepted
+turn-accepted m c host count = of-host-accepted _ _ (turned-host m c (host-accepted m c host) count)

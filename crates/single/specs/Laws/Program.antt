@@ -3,29 +3,28 @@ use mathlib.Core.List.{List}
 use mathlib.Core.Logic.{_⊎_}
 use mathlib.Core.Path.{_≡_, refl}
 use Prim.Native.Nat.{ℕ, _+_, _≤_, _<_}
-use lib.Dec.{ltb}
 use lib.ListN.{length, getD}
 use Rattle.outcome.specs.declared.refusal.Refusal.the-variants as Because
 use Rattle.outcome.specs.declared.refusal.Verdict.the-variants as Call
 use Rattle.outcome.specs.Laws.{either}
-use Rattle.central_record.specs.Record.{hostVerdict}
 use Rattle.exchange.specs.Jump.{recordAt, packageVerdict}
-use Rattle.exchange.specs.Laws.Verdicts.{by-fault, host-accepted, package-accepted}
+use Rattle.exchange.specs.Laws.Verdicts.{by-fault, package-accepted}
 use Rattle.central_record.specs.declared.record.Central.{Central}
 use Rattle.stint.specs.Overlap.{sharesWord}
 use Rattle.stint.specs.Stint.{stintOf, Accepted}
-use Rattle.single.specs.Program.{mostTurns, overlapVerdict, ownerVerdict, runVerdict, runAnswerBy, runAnswer}
+use Rattle.single.specs.Program.{overlapVerdict, ownerVerdict, runVerdict, runAnswerBy, runAnswer}
 use Rattle.stint.specs.Laws.Stint.{stint-record, stint-outside}
 use Rattle.single.specs.Laws.Host.{both-accept}
+use Rattle.single.specs.Turns.{turnsVerdict}
+use Rattle.single.specs.Laws.Turns.{turns-accepted}
 
 pub accepted : (m : List ℕ) (c : Central) (at n : ℕ) → runVerdict m c at n ≡ Call.Accepted → Accepted m c at
 unfolding runVerdict ownerVerdict overlapVerdict
 accepted m c at n e =
-    let first = both-accept (hostVerdict m c) (ownerVerdict m at n) e in
-    let turns = by-fault (ltb mostTurns n) Because.TooManyTurns _ (first .1) in
-    let packages = both-accept (packageVerdict m at) (overlapVerdict m at) (turns .1) in
+    let first = both-accept (turnsVerdict m c n) (ownerVerdict m at) e in
+    let packages = both-accept (packageVerdict m at) (overlapVerdict m at) (first .1) in
     record {
-      host = host-accepted m c (first .0);
+      host = turns-accepted m c n (first .0) .0;
       owner = package-accepted m at (packages .0);
       apart = by-fault (sharesWord at 16 (recordAt m at .ra) (recordAt m at .fl)) Because.SharedWord Call.Accepted (packages .1) .0;
     }

@@ -2,7 +2,7 @@
 use mathlib.Core.Path.{_∙_}
 use borrow.Author.Needs.{needs}
 use Rattle.central_record.specs.Laws.Record.{below-suc}
-use Rattle.single.specs.Program.{mostTurns}
+use Rattle.single.specs.Turns.{mostTurns}
 use Rattle.schedule.specs.Refusals.{turnsFit}
 use Rattle.schedule_verdict.proofs.lists.turns_fit.Statement.{statement}
 use Rattle.schedule_verdict.proofs.lists.turns_fit.Tie as tie

@@ -1,0 +1,152 @@
+-- Many turns: n and then k are n + k; one is that of `central_turn`; what is handed back may be lent again. Assumes nothing.
+use mathlib.Core.Bool.{Bool, true, false, cond}
+use mathlib.Core.List.{List}
+use mathlib.Core.Path.{_≡_, refl, sym, ap, _∙_}
+use Prim.Native.Nat.{ℕ, zero, suc, _+_, _≤_, _<_}
+use native.Mathlib.Nat.{zero-add}
+use native.Mathlib.Omega.{arith}
+use borrow.Author.Tests.{eqb-false, ltb-false, le-ltb}
+use lib.Dec.{eqb, ltb, lit≤}
+use lib.ListN.{length}
+use Rattle.word.specs.Laws.Choice.{of-cond}
+use Rattle.outcome.specs.declared.refusal.Refusal.the-variants as Because
+use Rattle.outcome.specs.declared.refusal.Verdict.the-variants as Call
+use Rattle.outcome.specs.Laws.{either}
+use Rattle.central_record.specs.Record.{hostVerdict}
+use Rattle.central_record.specs.declared.record.Central.{Central}
+use Rattle.exchange.specs.Accepted.{HostAccepted}
+use Rattle.exchange.specs.Laws.Verdicts.{by-fault, host-accepted, of-host-accepted}
+use Rattle.single.specs.Host.{Machine, machine, turnedOnce, Answered, answerTo, answered, answerBy, turnAnswer}
+use Rattle.single.specs.Order.{orElse}
+use Rattle.single.specs.Turns.{Turned, turned, turnsBefore, turnedUpTo}
+use Rattle.single.specs.Turns.{mostTurns, turnsVerdict, TurnsAnswered, turnsTo, turnsAnswered, turnsAnswerBy, turnsAnswer}
+use Rattle.single.specs.Laws.Host.{both-accept, stopped-stays, turned-host, turned-count}
+
+-- counts add up
+no-turns-before : (o : Turned) → turnsBefore 0 o ≡ o
+no-turns-before o = ap (turned (o .machine)) (zero-add (o .turns))
+
+before-before : (i k : ℕ) (o : Turned) → turnsBefore i (turnsBefore k o) ≡ turnsBefore (i + k) o
+before-before i k o =
+    let e : i + (k + o .turns) ≡ (i + k) + o .turns = omega arith in
+    ap (turned (o .machine)) e
+
+module _ (h : Machine) where
+  -- a stopped processor makes none
+  pub stopped-none : (n : ℕ) → eqb (h .central .stop) 0 ≡ false → turned h 0 ≡ turnedUpTo n h
+  unfolding turnedUpTo
+  stopped-none zero e = refl
+  stopped-none (suc n) e = rw e
+
+  -- the first turn of a running one
+  pub running-first : (n : ℕ) → eqb (h .central .stop) 0 ≡ true
+      → turnsBefore 1 (turnedUpTo n (turnedOnce (h .memory) (h .central))) ≡ turnedUpTo (suc n) h
+  unfolding turnedUpTo
+  running-first n e = rw e
+
+-- turns that go on from where o ended
+abbrev pub thenTurns : ℕ → Turned → Turned
+thenTurns k o = turnsBefore (o .turns) (turnedUpTo k (o .machine))
+
+-- n turns and then k are n + k turns, also where the first were ended by a stop
+pub turns-then-turns : (n k : ℕ) (h : Machine) → turnedUpTo (n + k) h ≡ thenTurns k (turnedUpTo n h)
+unfolding turnedUpTo
+turns-then-turns zero k h = rw (zero-add k) (sym (no-turns-before (turnedUpTo k h)))
+turns-then-turns (suc n) k h =
+    let e : suc n + k ≡ suc (n + k) = omega arith in
+    rw e (split (eqb (h .central .stop) 0) refl (turns-then-turns n k (turnedOnce (h .memory) (h .central))))
+  where
+    split : (z : Bool) → eqb (h .central .stop) 0 ≡ z
+        → turnedUpTo (n + k) (turnedOnce (h .memory) (h .central)) ≡ thenTurns k (turnedUpTo n (turnedOnce (h .memory) (h .central)))
+        → cond z (turnsBefore 1 (turnedUpTo (n + k) (turnedOnce (h .memory) (h .central)))) (turned h 0)
+        ≡ thenTurns k (cond z (turnsBefore 1 (turnedUpTo n (turnedOnce (h .memory) (h .central)))) (turned h 0))
+    split true e rest = ap (turnsBefore 1) rest ∙ before-before 1 _ _
+    split false e rest = stopped-none h k e ∙ sym (no-turns-before (turnedUpTo k h))
+
+-- at most the turns asked are made
+pub turns-most : (n : ℕ) (h : Machine) → turnedUpTo n h .turns ≤ n
+unfolding turnedUpTo
+turns-most zero h = lit≤ tt
+turns-most (suc n) h =
+    of-cond (λ (o : Turned). o .turns ≤ suc n) (eqb (h .central .stop) 0)
+    (λ e. omega (arith, turns-most n (turnedOnce (h .memory) (h .central)))) (λ e. omega arith)
+
+-- a count below the turns asked says that there is a stop
+pub fewer-stopped : (n : ℕ) (h : Machine) → turnedUpTo n h .turns < n → turnedUpTo n h .machine .central .stop ≡ 0 → ⊥
+unfolding turnedUpTo
+fewer-stopped zero h = λ fewer. absurd (omega arith)
+fewer-stopped (suc n) h =
+    of-cond (λ (o : Turned). o .turns < suc n → o .machine .central .stop ≡ 0 → ⊥) (eqb (h .central .stop) 0)
+    (λ e fewer. fewer-stopped n (turnedOnce (h .memory) (h .central)) (omega arith))
+    (λ e fewer. eqb-false (h .central .stop) 0 e)
+
+-- an answer as that of `central_turn`
+abbrev pub withoutCount : TurnsAnswered → Answered
+withoutCount a = answerTo (a .memory) (record { verdict = a .answer .verdict; central = a .answer .central })
+
+-- one turn is that of `central_turn`
+module _ (m : List ℕ) (c : Central) where
+  one-by-stop : (z : Bool) → eqb (c .stop) 0 ≡ z → turnedUpTo 1 (machine m c) ≡ turned (turnedOnce m c) (cond z 1 0)
+  unfolding turnedUpTo
+  one-by-stop true e = sym (running-first (machine m c) 0 e)
+  one-by-stop false e = sym (stopped-none (machine m c) 1 e) ∙ ap (λ (h : Machine). turned h 0) (sym (stopped-stays m c e))
+
+  pub one-turn : turnedUpTo 1 (machine m c) ≡ turned (turnedOnce m c) (cond (eqb (c .stop) 0) 1 0)
+  one-turn = one-by-stop (eqb (c .stop) 0) refl
+
+  pub one-turn-answer : withoutCount (turnsAnswer m c 1) ≡ turnAnswer m c
+  unfolding turnsAnswer turnsVerdict turnAnswer
+  one-turn-answer =
+      either
+      (λ v. withoutCount (turnsAnswerBy (orElse v Call.Accepted) (machine m c) (turnedUpTo 1 (machine m c))) ≡ answerBy v (machine m c) (turnedOnce m c))
+      (hostVerdict m c) (λ e. ap (λ (o : Turned). answered Call.Accepted (o .machine)) one-turn) (λ r. refl)
+
+-- a memory and a record that may be lent may be lent again after turns
+pub turned-accepted : (n : ℕ) (h : Machine) → HostAccepted (h .memory) (h .central) → length (h .central .registers) ≡ 24
+    → HostAccepted (turnedUpTo n h .machine .memory) (turnedUpTo n h .machine .central)
+unfolding turnedUpTo
+turned-accepted zero h l count = l
+turned-accepted (suc n) h l count =
+    of-cond (λ (o : Turned). HostAccepted (o .machine .memory) (o .machine .central)) (eqb (h .central .stop) 0)
+    (λ e. turned-accepted n (turnedOnce (h .memory) (h .central)) (turned-host (h .memory) (h .central) l count)
+    (turned-count (h .memory) (h .central) l count))
+    (λ e. l)
+
+-- what an accepted call is
+module _ (m : List ℕ) (c : Central) (n : ℕ) where
+  pub turns-accepted : turnsVerdict m c n ≡ Call.Accepted → HostAccepted m c × (n ≤ mostTurns)
+  unfolding turnsVerdict
+  turns-accepted e =
+      let tests = both-accept (hostVerdict m c) (cond (ltb mostTurns n) (Call.Refused Because.TooManyTurns) Call.Accepted) e in
+      (host-accepted m c (tests .0), ltb-false mostTurns n (by-fault (ltb mostTurns n) Because.TooManyTurns Call.Accepted (tests .1) .0))
+
+  pub of-turns-accepted : HostAccepted m c → n ≤ mostTurns → turnsVerdict m c n ≡ Call.Accepted
+  unfolding turnsVerdict
+  of-turns-accepted l few = rw (of-host-accepted m c l, le-ltb mostTurns n few)
+
+-- an answer, its turns counted on from n
+abbrev pub countedFrom : ℕ → TurnsAnswered → TurnsAnswered
+countedFrom n a =
+    turnsTo (a .memory) (record { verdict = a .answer .verdict; central = a .answer .central; turns = n + a .answer .turns })
+
+-- on the answers. The registers of a record are 24
+module _ (m : List ℕ) (c : Central) (count : length (c .registers) ≡ 24) (n : ℕ) (e : turnsVerdict m c n ≡ Call.Accepted) where
+  abbrev made : Turned
+  made = turnedUpTo n (machine m c)
+
+  again : (k : ℕ) → k ≤ mostTurns → turnsVerdict (made .machine .memory) (made .machine .central) k ≡ Call.Accepted
+  again k few = of-turns-accepted _ _ k (turned-accepted n (machine m c) (turns-accepted m c n e .0) count) few
+
+  -- what an accepted call hands back may be lent again
+  pub lent-again : (k : ℕ) → k ≤ mostTurns → turnsVerdict (turnsAnswer m c n .memory) (turnsAnswer m c n .answer .central) k ≡ Call.Accepted
+  unfolding turnsAnswer
+  lent-again k few = rw e (again k few)
+
+  -- an accepted call of n turns, and one of k on what it handed back, are one call of n + k: memory, record, verdict and the sum of the counts
+  pub answers-add : (k : ℕ) → n + k ≤ mostTurns
+      → countedFrom (turnsAnswer m c n .answer .turns) (turnsAnswer (turnsAnswer m c n .memory) (turnsAnswer m c n .answer .central) k)
+      ≡ turnsAnswer m c (n + k)
+  unfolding turnsAnswer
+  answers-add k few =
+      rw (e, again k (omega arith), of-turns-accepted m c (n + k) (turns-accepted m c n e .0) few)
+      (ap (turnsAnswered Call.Accepted) (sym (turns-then-turns n k (machine m c))))
