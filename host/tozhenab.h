@@ -36,7 +36,7 @@ extern "C" {
 #define TOZHENAB_RECORD_VALUE 5      /* see "Records" */
 #define TOZHENAB_LIST_LENGTH 6       /* lists of a schedule; a result slice that is too short */
 #define TOZHENAB_UNLISTED_JOB 7      /* a stint of a job that is not listed */
-#define TOZHENAB_TOO_MANY_TURNS 8    /* a stint over 65,535 turns, a run over 65,535 rounds */
+#define TOZHENAB_TOO_MANY_TURNS 8    /* over 65,535 turns of a stint or call, or rounds of a run */
 #define TOZHENAB_PACKAGE_PAST_END 9  /* an exchange package past the end of memory */
 #define TOZHENAB_STRAY_BITS 10       /* a bit of a package that has to be zero is set */
 #define TOZHENAB_FIELD_PAST_END 11   /* RA + FL of a package past the end of memory */
@@ -52,7 +52,7 @@ extern "C" {
 #define TOZHENAB_PROCESSORS 10        /* most peripheral processors */
 #define TOZHENAB_JOBS 16              /* most jobs of a schedule */
 #define TOZHENAB_STINTS 256           /* most stints of a schedule */
-#define TOZHENAB_TURNS 65535          /* most turns of a stint, most rounds of a run */
+#define TOZHENAB_TURNS 65535          /* most turns of a stint or a call, most rounds of a run */
 
 /*
  * Records. A record is a slice of numbers, in the order below. It is number 5 where the slice has
@@ -94,6 +94,7 @@ extern "C" {
 #define TOZHENAB_MACHINE_PROCESSOR(n) (78 + TOZHENAB_PROCESSOR_NUMBERS * (n))
 
 /* Results: the length that each takes, and what stands where. */
+#define TOZHENAB_MADE_NUMBERS 1 /* of tozhenab_central_turns: turns, the stopping one included */
 #define TOZHENAB_RAN_NUMBERS 2 /* of tozhenab_run_program, and of each stint of tozhenab_schedule */
 #define TOZHENAB_RAN_TURNS 0   /* the turns made, the stopping one included */
 #define TOZHENAB_RAN_STOP 1    /* the stop, or 0 where the turns were used up */
@@ -103,11 +104,24 @@ extern "C" {
 #define TOZHENAB_TAKEN_MARK 1 /* 1 where the word is a function */
 
 /*
- * One turn of the central processor on its field; nothing changes where it is stopped.
- * record: a central record. Refusals 1, 3, 5.
+ * One turn of the central processor on its field; nothing changes where it is stopped. For more
+ * than one, tozhenab_central_turns. record: a central record. Refusals 1, 3, 5.
  */
 uint64_t tozhenab_central_turn(uint64_t *memory, size_t memory_length, uint64_t *record,
                                size_t record_length);
+
+/*
+ * Up to so many turns of the central processor on its field, as the record stands, without an
+ * exchange jump; ends early at a stop. A stopped processor makes none, and nothing changes; where
+ * fewer are made than asked, it is stopped. n turns and then k are n + k. record: a central record.
+ * result: TOZHENAB_MADE_NUMBERS. Refusals 1, 3, 5, 6 (a short result), 8.
+ *
+ * What it costs: every call tests all the memory that it is lent, whatever it then does. A call of
+ * one turn on 131,072 words costs many thousand times the turn itself: step in batches.
+ */
+uint64_t tozhenab_central_turns(uint64_t *memory, size_t memory_length, uint64_t *record,
+                                size_t record_length, uint64_t turns, uint64_t *result,
+                                size_t result_length);
 
 /*
  * An exchange jump: swaps the package at the address with the registers and sets the central

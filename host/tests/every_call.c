@@ -1,4 +1,4 @@
-/* Makes each call of tozhenab.h once, so that every declaration is tried against the archive: a call
+/* Makes each call of tozhenab.h, so that every declaration is tried against the archive: a call
  * that passed a slice or a number in another place would give another answer. */
 #include "tozhenab.h"
 
@@ -52,6 +52,77 @@ static void exchange_and_central_turn(void)
     expect("central turn: X6", record[TOZHENAB_CENTRAL_X + 6], 5);
     expect("central turn: A6", record[TOZHENAB_CENTRAL_A + 6], 3);
     expect("central turn: the word stored", memory[023], 5);
+}
+
+/* n turns and then k are n + k: one and four on one memory, five on another. */
+static void central_turns(void)
+{
+    uint64_t memory[WORDS], other[WORDS];
+    uint64_t record[TOZHENAB_CENTRAL_NUMBERS] = {0}, same[TOZHENAB_CENTRAL_NUMBERS];
+    uint64_t made[TOZHENAB_MADE_NUMBERS] = {7};
+
+    load(memory);
+    load(other);
+    record[TOZHENAB_CENTRAL_RA] = 020;
+    record[TOZHENAB_CENTRAL_FL] = 4;
+    memcpy(same, record, sizeof same);
+    expect("one turn of many",
+           tozhenab_central_turns(memory, LENGTH(memory), record, LENGTH(record), 1, made,
+                                  LENGTH(made)),
+           TOZHENAB_ACCEPTED);
+    expect("one turn of many: turns", made[0], 1);
+    expect("one turn of many: P", record[TOZHENAB_CENTRAL_P], 1);
+    expect("one turn of many: stop", record[TOZHENAB_CENTRAL_STOP], 0);
+    expect("four turns more",
+           tozhenab_central_turns(memory, LENGTH(memory), record, LENGTH(record), 4, made,
+                                  LENGTH(made)),
+           TOZHENAB_ACCEPTED);
+    expect("four turns more: turns up to the stop", made[0], 1);
+    expect("four turns more: stop", record[TOZHENAB_CENTRAL_STOP], 1);
+    expect("five turns",
+           tozhenab_central_turns(other, LENGTH(other), same, LENGTH(same), 5, made, LENGTH(made)),
+           TOZHENAB_ACCEPTED);
+    expect("five turns: turns", made[0], 2);
+    expect("five turns: the word stored", other[023], 5);
+    expect("five turns: memory", (uint64_t)memcmp(memory, other, sizeof memory), 0);
+    expect("five turns: record", (uint64_t)memcmp(record, same, sizeof record), 0);
+    expect("turns of a stopped processor",
+           tozhenab_central_turns(other, LENGTH(other), same, LENGTH(same), 5, made, LENGTH(made)),
+           TOZHENAB_ACCEPTED);
+    expect("turns of a stopped processor: turns", made[0], 0);
+}
+
+/* Each refusal of many turns, lowest number first: 65,536 of them are asked throughout. */
+static void central_turns_refused(void)
+{
+    uint64_t memory[WORDS];
+    uint64_t record[TOZHENAB_CENTRAL_NUMBERS] = {0};
+    uint64_t made[TOZHENAB_MADE_NUMBERS] = {7};
+    const uint64_t many = TOZHENAB_TURNS + 1;
+
+    load(memory);
+    memory[0] = UINT64_C(1) << 60;
+    expect("many turns on no memory",
+           tozhenab_central_turns(memory, 0, record, LENGTH(record) - 1, many, made, 0),
+           TOZHENAB_CENTRAL_LENGTH);
+    expect("many turns on a word of 61 bits",
+           tozhenab_central_turns(memory, LENGTH(memory), record, LENGTH(record) - 1, many, made,
+                                  0),
+           TOZHENAB_CENTRAL_WORD);
+    memory[0] = 0;
+    expect("many turns of a short record",
+           tozhenab_central_turns(memory, LENGTH(memory), record, LENGTH(record) - 1, many, made,
+                                  0),
+           TOZHENAB_RECORD_VALUE);
+    expect("many turns in a short result",
+           tozhenab_central_turns(memory, LENGTH(memory), record, LENGTH(record), many, made, 0),
+           TOZHENAB_LIST_LENGTH);
+    expect("many turns: a short result is kept", made[0], 7);
+    expect("too many turns",
+           tozhenab_central_turns(memory, LENGTH(memory), record, LENGTH(record), many, made,
+                                  LENGTH(made)),
+           TOZHENAB_TOO_MANY_TURNS);
+    expect("too many turns: turns", made[0], 0);
 }
 
 static void run_program(void)
@@ -167,6 +238,8 @@ static void put_take_and_drop(void)
 int main(void)
 {
     exchange_and_central_turn();
+    central_turns();
+    central_turns_refused();
     run_program();
     schedule();
     peripheral_turn_and_run();

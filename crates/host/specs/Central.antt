@@ -8,6 +8,7 @@ use lib.Seq.{sets}
 use Rattle.outcome.specs.Numbers.{verdictNumber}
 use Rattle.central_record.specs.Record.{hostVerdict}
 use Rattle.single.specs.Host.{Answered, turnAnswer, exchangeAnswer}
+use Rattle.single.specs.Turns.{TurnsAnswered, turnsAnswer}
 use Rattle.single.specs.Program.{RunAnswered, runAnswer}
 use Rattle.flat_answer.specs.Back.{kept, shortNumber}
 use Rattle.flat_record.specs.Layout.{centralNumbers}
@@ -31,6 +32,27 @@ centralTurn m c = centralLeftBy c (turnAnswer m (centralLent c))
 
 unfoldable pub centralExchange : List ℕ → List ℕ → ℕ → CentralLeft
 centralExchange m c at = centralLeftBy c (exchangeAnswer m (centralLent c) at)
+
+-- the number, the memory, the record and the result slice
+pub record TurnsLeft : Type 0 where
+  pub number : ℕ
+  pub memory : List ℕ
+  pub central : List ℕ
+  pub result : List ℕ
+
+abbrev pub turnsLeft : ℕ → List ℕ → List ℕ → List ℕ → TurnsLeft
+turnsLeft n m c out = record { number = n; memory = m; central = c; result = out }
+
+-- the turns made in the first entry; after a refusal "counts are 0"
+abbrev pub turnsLeftBy : List ℕ → List ℕ → TurnsAnswered → TurnsLeft
+turnsLeftBy c out a =
+    turnsLeft (verdictNumber (a .answer .verdict)) (a .memory)
+    (kept (a .answer .verdict) (centralNumbers (a .answer .central)) c) (sets out 0 (a .answer .turns ∷ []))
+
+unfoldable pub centralTurns : List ℕ → List ℕ → ℕ → List ℕ → TurnsLeft
+centralTurns m c n out =
+    cond (leb 1 (length out)) (turnsLeftBy c out (turnsAnswer m (centralLent c) n))
+    (turnsLeft (shortNumber (hostVerdict m (centralLent c))) m c out)
 
 -- the number, the memory and the result slice; the record is lent to be read alone, since a stint hands it back as it was
 pub record ResultLeft : Type 0 where

@@ -1,6 +1,6 @@
-// The calls on the central processor: one turn, one exchange jump, the run of one program.
+// The calls on the central processor: one turn, many turns, one exchange jump, the run of one program.
 ghost use mathlib.Core.Path.{_≡_};
-ghost use Rattle.host.specs.Central.{centralLeft, centralTurn, centralExchange, resultLeft, programRun};
+ghost use Rattle.host.specs.Central.{centralLeft, centralTurn, turnsLeft, centralTurns, centralExchange, resultLeft, programRun};
 use central_record::record::host_verdict;
 use flat_answer::keep::keep_central;
 use flat_answer::keep::short_number;
@@ -8,6 +8,7 @@ use flat_record::read::central_lent;
 use single::host::central_turn;
 use single::host::exchange;
 use single::program::run_program;
+use single::turns::central_turns;
 
 // One turn of the central processor.
 #[no_mangle]
@@ -19,6 +20,29 @@ pub extern "C" fn tozhenab_central_turn(memory: &mut [u64], central: &mut [u64])
     let verdict = a.verdict;
     let turned = a.central;
     keep_central(&mut *central, verdict, turned)
+}
+
+// Up to so many turns of the central processor. The result is the turns made.
+#[no_mangle]
+pub extern "C" fn tozhenab_central_turns(
+    memory: &mut [u64],
+    central: &mut [u64],
+    turns: u64,
+    result: &mut [u64],
+) -> u64
+    ensures { λ n. ⌜ turnsLeft n (now (memory .exit)) (now (central .exit)) (now (result .exit))
+        ≡ centralTurns (now (memory .entry)) (now (central .entry)) turns (now (result .entry)) ⌝ }
+{
+    let c = central_lent(&*central);
+    if result.len() < 1 {
+        let verdict = host_verdict(&*memory, c);
+        return short_number(verdict);
+    }
+    let made = central_turns(&mut *memory, c, turns);
+    let verdict = made.verdict;
+    let after = made.central;
+    result[0] = made.turns;
+    keep_central(&mut *central, verdict, after)
 }
 
 // An exchange jump at the package with this address.

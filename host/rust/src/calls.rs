@@ -40,12 +40,36 @@ fn accepted(number: u64) -> Result<(), Refusal> {
     }
 }
 
-/// One turn of the central processor on its field; nothing changes where it is stopped.
+/// One turn of the central processor on its field; nothing changes where it is stopped. For more
+/// than one, [`central_turns`].
 pub fn central_turn(memory: &mut [u64], record: &mut CentralRecord) -> Result<(), Refusal> {
     let mut numbers: [u64; CENTRAL_NUMBERS] = (*record).into();
     accepted(flat::central_turn(memory, &mut numbers))?;
     *record = numbers.into();
     Ok(())
+}
+
+/// Up to so many turns of the central processor on its field, as the record stands, and the number
+/// of turns made, the stopping one included. They end early at a stop; a stopped processor makes
+/// none, and nothing changes. n turns and then k are n + k.
+///
+/// Every call tests all the memory that it is lent, so that a call of one turn on 131,072 words
+/// costs many thousand times the turn itself: step in batches.
+pub fn central_turns(
+    memory: &mut [u64],
+    record: &mut CentralRecord,
+    turns: u64,
+) -> Result<u64, Refusal> {
+    let mut numbers: [u64; CENTRAL_NUMBERS] = (*record).into();
+    let mut result = [0];
+    accepted(flat::central_turns(
+        memory,
+        &mut numbers,
+        turns,
+        &mut result,
+    ))?;
+    *record = numbers.into();
+    Ok(result[0])
 }
 
 /// An exchange jump: swaps the package at the address with the registers and sets the central

@@ -22,6 +22,15 @@ mod archive {
             record: *mut u64,
             record_length: usize,
         ) -> u64;
+        pub fn tozhenab_central_turns(
+            memory: *mut u64,
+            memory_length: usize,
+            record: *mut u64,
+            record_length: usize,
+            turns: u64,
+            result: *mut u64,
+            result_length: usize,
+        ) -> u64;
         pub fn tozhenab_exchange(
             memory: *mut u64,
             memory_length: usize,
@@ -84,7 +93,7 @@ mod archive {
     }
 }
 
-/// One turn of the central processor. Refusals 1, 3, 5.
+/// One turn of the central processor. Refusals 1, 3, 5. For more than one, [`central_turns`].
 pub fn central_turn(memory: &mut [u64], record: &mut [u64]) -> u64 {
     // SAFETY: the pointers are those of exclusive slices, each with its length.
     unsafe {
@@ -93,6 +102,31 @@ pub fn central_turn(memory: &mut [u64], record: &mut [u64]) -> u64 {
             memory.len(),
             record.as_mut_ptr(),
             record.len(),
+        )
+    }
+}
+
+/// Up to so many turns of the central processor, ended early by a stop; the result is the turns
+/// made. Refusals 1, 3, 5, 6, 8.
+///
+/// Every call tests all the memory that it is lent, so that a call of one turn on 131,072 words
+/// costs many thousand times the turn itself: step in batches.
+pub fn central_turns(
+    memory: &mut [u64],
+    record: &mut [u64],
+    turns: u64,
+    result: &mut [u64],
+) -> u64 {
+    // SAFETY: the pointers are those of exclusive slices, each with its length.
+    unsafe {
+        archive::tozhenab_central_turns(
+            memory.as_mut_ptr(),
+            memory.len(),
+            record.as_mut_ptr(),
+            record.len(),
+            turns,
+            result.as_mut_ptr(),
+            result.len(),
         )
     }
 }

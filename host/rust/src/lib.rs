@@ -1,7 +1,7 @@
 //! Tozhenab, a proved CDC 6600, called from Rust. The rules of the machine are those of document
 //! 01.
 //!
-//! Two layers make the same nine calls:
+//! Two layers make the same ten calls:
 //!
 //! - the functions of this module take records with named fields and give a [`Result`];
 //! - those of [`flat`] take the slices of numbers that the C functions of `tozhenab.h` take, and
@@ -22,8 +22,8 @@ mod record;
 mod refusal;
 
 pub use calls::{
-    central_turn, drop, exchange, peripheral_turn, put, run, run_program, schedule, take, Ran,
-    Stint, Taken,
+    central_turn, central_turns, drop, exchange, peripheral_turn, put, run, run_program, schedule,
+    take, Ran, Stint, Taken,
 };
 pub use record::{CentralRecord, Channel, MachineRecord, Processor};
 pub use refusal::Refusal;

@@ -41,6 +41,9 @@ fn a_central_record_of_another_length_is_5() {
         let record = vec![0; length];
         assert_kept(5, &record, &[], |r, _| flat::central_turn(&mut lent, r));
         assert_kept(5, &record, &[], |r, _| flat::exchange(&mut lent, r, 0));
+        assert_kept(5, &record, &[], |r, out| {
+            flat::central_turns(&mut lent, r, 5, out)
+        });
         // A short result stays as it is, and 5 comes before 6.
         assert_kept(5, &record, &[KEPT], |r, out| {
             flat::run_program(&mut lent, r, 0, 5, out)
@@ -118,6 +121,9 @@ fn a_short_result_is_6_before_the_later_numbers() {
     assert_kept(6, &record, &[KEPT; 3], |r, out| {
         flat::schedule(&mut lent, r, &[0], &[0, 0], &[1, 1], out)
     });
+    assert_kept(6, &record, &[], |r, out| {
+        flat::central_turns(&mut lent, r, 65_536, out)
+    });
     assert_eq!(lent, memory());
     let mut peripheral = vec![0; 4096];
     assert_kept(6, &[0; MACHINE_NUMBERS], &[], |r, out| {
@@ -129,6 +135,9 @@ fn a_short_result_is_6_before_the_later_numbers() {
 fn the_host_is_told_of_its_memories_first() {
     let mut nothing = [];
     assert_kept(1, &[], &[], |r, _| flat::central_turn(&mut nothing, r));
+    assert_kept(1, &[], &[], |r, out| {
+        flat::central_turns(&mut nothing, r, 0, out)
+    });
     assert_kept(1, &[], &[], |r, _| flat::exchange(&mut nothing, r, 0));
     assert_kept(1, &[], &[], |r, out| {
         flat::run_program(&mut nothing, r, 0, 0, out)
@@ -168,6 +177,9 @@ fn assert_result<const N: usize>(
 #[test]
 fn what_stands_past_a_result_is_kept() {
     let record = [0; CENTRAL_NUMBERS];
+    assert_result(0, [1], |out| {
+        flat::central_turns(&mut memory(), &mut [0; CENTRAL_NUMBERS], 5, out)
+    });
     assert_result(0, [2, 1], |out| {
         flat::run_program(&mut memory(), &record, 0, 5, out)
     });
@@ -186,6 +198,9 @@ fn what_stands_past_a_result_is_kept() {
 #[test]
 fn a_result_is_0_after_a_refusal() {
     let record = [0; CENTRAL_NUMBERS];
+    assert_result(8, [0], |out| {
+        flat::central_turns(&mut memory(), &mut [0; CENTRAL_NUMBERS], 65_536, out)
+    });
     assert_result(9, [0, 0], |out| {
         flat::run_program(&mut memory(), &record, 0o61, 5, out)
     });

@@ -41,6 +41,37 @@ fn a_central_turn() {
 }
 
 #[test]
+fn central_turns() {
+    let (mut lent, mut central) = (memory(), record());
+    assert_eq!(tozhenab::central_turns(&mut lent, &mut central, 5), Ok(2));
+    assert_eq!((central.p, central.x[6], central.stop), (1, 5, 1));
+    assert_eq!(lent[0o23], 5);
+    let stopped = central;
+    assert_eq!(tozhenab::central_turns(&mut lent, &mut central, 5), Ok(0));
+    assert_eq!(central, stopped);
+    assert_eq!(
+        tozhenab::central_turns(&mut lent, &mut central, 65_536),
+        Err(Refusal::TooManyTurns)
+    );
+    assert_eq!(central, stopped);
+}
+
+#[test]
+fn n_turns_and_then_k_are_n_plus_k() {
+    for n in 0..4 {
+        for k in 0..4 {
+            let (mut lent, mut central) = (memory(), record());
+            let first = tozhenab::central_turns(&mut lent, &mut central, n).unwrap();
+            let second = tozhenab::central_turns(&mut lent, &mut central, k).unwrap();
+            let (mut other, mut same) = (memory(), record());
+            let made = tozhenab::central_turns(&mut other, &mut same, n + k);
+            assert_eq!(made, Ok(first + second));
+            assert_eq!((lent, central), (other, same));
+        }
+    }
+}
+
+#[test]
 fn an_exchange() {
     let (mut lent, mut central) = (memory(), CentralRecord::default());
     central.stop = 5;

@@ -13,28 +13,39 @@ use Rattle.exchange.specs.Accepted.{HostAccepted}
 use Rattle.exchange.specs.Laws.Verdicts.{host-accepted}
 use Rattle.central_record.specs.declared.record.Central.{Central}
 use Rattle.single.specs.Host.{Machine, Answered, answerTo, answerBy, turnAnswer, exchangeAnswer}
+use Rattle.single.specs.Turns.{Turned, TurnsAnswered, turnsTo, turnsAnswerBy, turnsAnswer}
 use Rattle.single.specs.Program.{runTo, runAnswer}
 use Rattle.single.specs.Laws.Host.{exchange-host}
+use Rattle.single.specs.Laws.Turns.{turns-accepted}
 use Rattle.single.specs.declared.host.Answer.{Answer}
+use Rattle.single.specs.declared.turns.TurnsAnswer.{TurnsAnswer}
 use Rattle.single.specs.declared.program.RunAnswer.{RunAnswer}
 use Rattle.flat_record.specs.Layout.{centralNumbers}
 use Rattle.flat_record.specs.Lent.{centralLent}
 use Rattle.flat_record.specs.Laws.Lent.{central-length}
 use Rattle.flat_answer.specs.Back.{Back, back, backBy, shortNumber}
-use Rattle.host.specs.Central.{centralLeft, centralLeftBy, centralTurn, centralExchange, resultLeft, programLeft, programRun}
+use Rattle.host.specs.Central.{centralLeft, centralLeftBy, centralTurn, centralExchange}
+use Rattle.host.specs.Central.{turnsLeft, turnsLeftBy, centralTurns, resultLeft, programLeft, programRun}
 
 verdict-of : (v : Verdict) (given after : Machine) → answerBy v given after .answer .verdict ≡ v
 verdict-of Call.Accepted given after = refl
 verdict-of (Call.Refused r) given after = refl
 
+turns-verdict-of : (v : Verdict) (given : Machine) (after : Turned) → turnsAnswerBy v given after .answer .verdict ≡ v
+turns-verdict-of Call.Accepted given after = refl
+turns-verdict-of (Call.Refused r) given after = refl
+
 module _ (m c n : List ℕ) (k : Central) (given : k ≡ centralLent c) where
+  -- an accepted record is that of a slice of its length
+  record-length : HostAccepted m k → length c ≡ 29
+  record-length l = central-length (length m) c (rw given at (l .fits))
+
   module _ (a : Answer) where
     -- the record of an accepted turn or exchange jump is stored into a slice of its length
     stores : (v : Verdict) (w x : Machine) → answerTo n a ≡ answerBy v w x → (v ≡ Call.Accepted → HostAccepted m k)
         → a .verdict ≡ Call.Accepted → length c ≡ 29
     stores v w x e host ok =
-        let accepted = host (sym (verdict-of v w x) ∙ sym (ap (λ (y : Answered). y .answer .verdict) e) ∙ ok) in
-        central-length (length m) c (rw given at (accepted .fits))
+        record-length (host (sym (verdict-of v w x) ∙ sym (ap (λ (y : Answered). y .answer .verdict) e) ∙ ok))
 
     pub turn-stores : answerTo n a ≡ turnAnswer m k → a .verdict ≡ Call.Accepted → length c ≡ 29
     unfolding turnAnswer
@@ -57,6 +68,22 @@ module _ (m c n : List ℕ) (k : Central) (given : k ≡ centralLent c) where
       unfolding centralExchange
       exchange-is at e = left-is (exchangeAnswer m (centralLent c) at) (e ∙ ap (λ (y : Central). exchangeAnswer m y at) given)
 
+  -- many turns, whose result has room; below, where it has none
+  module _ (turns : ℕ) (a : TurnsAnswer) (e : turnsTo n a ≡ turnsAnswer m k turns) where
+    pub turns-store : a .verdict ≡ Call.Accepted → length c ≡ 29
+    unfolding turnsAnswer
+    turns-store ok =
+        record-length (turns-accepted m k turns
+        (sym (turns-verdict-of _ _ _) ∙ sym (ap (λ (y : TurnsAnswered). y .answer .verdict) e) ∙ ok) .0)
+
+    pub turns-are : (out d : List ℕ) (number : ℕ) → 1 ≤ length out → back number d ≡ backBy (a .verdict) (centralNumbers (a .central)) c
+        → turnsLeft number n d (sets out 0 (a .turns ∷ [])) ≡ centralTurns m c turns out
+    unfolding centralTurns
+    turns-are out d number room h =
+        rw (le-leb 1 (length out) room)
+        (ap (λ (b : Back). turnsLeft (b .number) n (b .lent) (sets out 0 (a .turns ∷ []))) h
+        ∙ ap (turnsLeftBy c out) (e ∙ ap (λ (y : Central). turnsAnswer m y turns) given))
+
   -- the run of a program, whose result has room; below, where it has none
   module _ (out : List ℕ) (at turns number : ℕ) where
     pub program-is : (a : RunAnswer) → 2 ≤ length out → runTo n a ≡ runAnswer m k at turns → number ≡ verdictNumber (a .verdict)
@@ -65,6 +92,11 @@ module _ (m c n : List ℕ) (k : Central) (given : k ≡ centralLent c) where
     program-is a room e h =
         rw (le-leb 2 (length out) room, h)
         (ap (programLeft out) (e ∙ ap (λ (y : Central). runAnswer m y at turns) given))
+
+pub turns-short : (m c out : List ℕ) (k : Central) (turns number : ℕ) (v : Verdict) → k ≡ centralLent c → length out < 1
+    → v ≡ hostVerdict m k → number ≡ shortNumber v → turnsLeft number m c out ≡ centralTurns m c turns out
+unfolding centralTurns
+turns-short m c out k turns number v given none e h = rw (lt-leb 1 (length out) none, ← given, ← e, h)
 
 pub program-short : (m c out : List ℕ) (k : Central) (at turns number : ℕ) (v : Verdict) → k ≡ centralLent c → length out < 2
     → v ≡ hostVerdict m k → number ≡ shortNumber v → resultLeft number m out ≡ programRun m c at turns out
