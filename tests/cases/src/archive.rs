@@ -13,6 +13,7 @@ pub fn call(call: &Call, lent: &mut Lent) -> u64 {
     } = lent;
     match call {
         Call::CentralTurn => flat::central_turn(memory, record),
+        Call::CentralTurns { turns } => flat::central_turns(memory, record, *turns, result),
         Call::Exchange { address } => flat::exchange(memory, record, *address),
         Call::RunProgram { address, turns } => {
             flat::run_program(memory, record, *address, *turns, result)

@@ -6,6 +6,9 @@ use tozhenab::layout::{CENTRAL_NUMBERS, CHANNEL_NUMBERS, MACHINE_NUMBERS};
 #[derive(Clone, Debug)]
 pub enum Call {
     CentralTurn,
+    CentralTurns {
+        turns: u64,
+    },
     Exchange {
         address: u64,
     },
@@ -32,8 +35,9 @@ pub enum Call {
 }
 
 /// The names of the calls, in the order of `Call::place`.
-pub const NAMES: [&str; 9] = [
+pub const NAMES: [&str; 10] = [
     "central_turn",
+    "central_turns",
     "exchange",
     "run_program",
     "schedule",
@@ -45,8 +49,9 @@ pub const NAMES: [&str; 9] = [
 ];
 
 /// The refusals that each call can give. Number 16 is the console program's.
-pub const REFUSALS: [&[u64]; 9] = [
+pub const REFUSALS: [&[u64]; 10] = [
     &[1, 3, 5],
+    &[1, 3, 5, 6, 8],
     &[1, 3, 5, 9, 10, 11],
     &[1, 3, 5, 6, 8, 9, 10, 11, 12],
     &[1, 3, 5, 6, 7, 8, 9, 10, 11, 12],
@@ -62,14 +67,15 @@ impl Call {
     pub fn place(&self) -> usize {
         match self {
             Call::CentralTurn => 0,
-            Call::Exchange { .. } => 1,
-            Call::RunProgram { .. } => 2,
-            Call::Schedule { .. } => 3,
-            Call::PeripheralTurn { .. } => 4,
-            Call::Run { .. } => 5,
-            Call::Put { .. } => 6,
-            Call::Take => 7,
-            Call::Drop => 8,
+            Call::CentralTurns { .. } => 1,
+            Call::Exchange { .. } => 2,
+            Call::RunProgram { .. } => 3,
+            Call::Schedule { .. } => 4,
+            Call::PeripheralTurn { .. } => 5,
+            Call::Run { .. } => 6,
+            Call::Put { .. } => 7,
+            Call::Take => 8,
+            Call::Drop => 9,
         }
     }
 
@@ -86,6 +92,7 @@ impl Call {
     pub fn record_length(&self) -> usize {
         match self {
             Call::CentralTurn
+            | Call::CentralTurns { .. }
             | Call::Exchange { .. }
             | Call::RunProgram { .. }
             | Call::Schedule { .. } => CENTRAL_NUMBERS,
@@ -99,7 +106,7 @@ impl Call {
         match self {
             Call::RunProgram { .. } | Call::Take => 2,
             Call::Schedule { stint_jobs, .. } => 2 * stint_jobs.len(),
-            Call::Run { .. } => 1,
+            Call::CentralTurns { .. } | Call::Run { .. } => 1,
             _ => 0,
         }
     }

@@ -43,7 +43,7 @@ pub struct Coverage {
 /// The places in `STOPS` that a call can give.
 fn stops_of(call: usize) -> std::ops::Range<usize> {
     match NAMES[call] {
-        "central_turn" | "run_program" | "schedule" => 0..5,
+        "central_turn" | "central_turns" | "run_program" | "schedule" => 0..5,
         "peripheral_turn" => 5..11,
         "run" => 0..11,
         _ => 0..0,
@@ -89,7 +89,7 @@ impl Coverage {
             }
         };
         match &seen.case.call {
-            Call::CentralTurn => changed(STOP),
+            Call::CentralTurn | Call::CentralTurns { .. } => changed(STOP),
             Call::PeripheralTurn { processor } => {
                 changed(layout::processor(*processor as usize) + PROCESSOR_STOP)
             }

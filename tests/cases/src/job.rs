@@ -1,12 +1,15 @@
-//! Jobs placed in memory, and cases of the run of a program and of a schedule.
+//! Jobs placed in memory, and cases of many turns, of the run of a program and of a schedule.
 
 use crate::case::{Call, Case, Lent};
-use crate::central::{central_record, fill_registers, program_address, MOST_WORDS};
+use crate::central::{central_lent, central_record, fill_registers, program_address, MOST_WORDS};
 use crate::instruction::fill_field;
 use crate::package::{package_of, WORDS};
 use crate::rng::Rng;
 use crate::values::{result_slice, word_60};
 use tozhenab::layout::{CENTRAL_NUMBERS, EM, FL, P, RA};
+
+/// Most words of a field that is filled with a program.
+const MOST_FILLED: usize = 256;
 
 /// Most turns of a stint.
 const MOST_TURNS: u64 = 65_535;
@@ -111,17 +114,39 @@ fn turns(rng: &mut Rng, few: u64) -> u64 {
     }
 }
 
-/// The run of one program.
-pub fn program_case(rng: &mut Rng) -> Case {
-    let (memory, addresses) = jobs_in_memory(rng, 1);
-    let turns = match rng.below(100) {
+/// The turns of a program that is run by itself: mostly few, at times as many as there may be.
+fn program_turns(rng: &mut Rng) -> u64 {
+    match rng.below(100) {
         0 => MOST_TURNS - rng.below(2),
         1..=12 => rng.below(2000),
         _ => turns(rng, 30),
+    }
+}
+
+/// Many turns of a record as it stands. Its field mostly holds a program.
+pub fn turns_case(rng: &mut Rng) -> Case {
+    let mut lent = central_lent(rng);
+    let (ra, fl) = (lent.record[RA] as usize, lent.record[FL] as usize);
+    if fl <= MOST_FILLED && !rng.one_in(4) {
+        fill_field(rng, &mut lent.memory[ra..ra + fl]);
+    }
+    let call = Call::CentralTurns {
+        turns: program_turns(rng),
     };
+    lent.result = result_slice(rng, call.result_length());
+    Case {
+        call,
+        lent,
+        faults: Vec::new(),
+    }
+}
+
+/// The run of one program.
+pub fn program_case(rng: &mut Rng) -> Case {
+    let (memory, addresses) = jobs_in_memory(rng, 1);
     let call = Call::RunProgram {
         address: addresses[0],
-        turns,
+        turns: program_turns(rng),
     };
     case(rng, call, memory)
 }

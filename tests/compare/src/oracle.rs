@@ -16,6 +16,9 @@ const LANDED: Requests = Requests {
     ..Requests::none()
 };
 
+/// Most turns of a call.
+const MOST_TURNS: u64 = 65_535;
+
 /// Makes the call on what is lent and gives its number.
 pub fn call(call: &Call, lent: &mut Lent) -> u64 {
     let needed = call.result_length();
@@ -32,6 +35,7 @@ pub fn call(call: &Call, lent: &mut Lent) -> u64 {
 fn carry_out(call: &Call, lent: &mut Lent, room: bool) -> Result<(), u8> {
     match call {
         Call::CentralTurn | Call::Exchange { .. } => central_call(call, lent),
+        Call::CentralTurns { turns } => turns_call(*turns, lent, room),
         Call::RunProgram { .. } | Call::Schedule { .. } => job_call(call, lent, room),
         Call::PeripheralTurn { .. } | Call::Run { .. } => machine_call(call, lent, room),
         Call::Put { .. } | Call::Take | Call::Drop => device_call(call, lent, room),
@@ -55,6 +59,28 @@ fn central_call(call: &Call, lent: &mut Lent) -> Result<(), u8> {
             second::central_exchange(&LANDED, &mut lent.memory, &mut [], &mut central, *address)?
         }
         _ => second::central_turn(&LANDED, &mut lent.memory, &mut [], &mut central)?,
+    }
+    record::keep_central(&mut lent.record, &central);
+    Ok(())
+}
+
+/// The second emulator has no call of many turns: its turns are made one by one, as long as it runs.
+fn turns_call(turns: u64, lent: &mut Lent, room: bool) -> Result<(), u8> {
+    let mut central = central_of(&lent.record);
+    // A turn of a stopped processor changes nothing and meets numbers 1 to 5.
+    let mut stopped = central.clone();
+    stopped.stop = stopped.stop.max(1);
+    second::central_turn(&LANDED, &mut lent.memory, &mut [], &mut stopped)?;
+    if !room {
+        return Err(6);
+    }
+    if turns > MOST_TURNS {
+        return Err(8);
+    }
+    let field = &mut lent.memory[central.field()];
+    while lent.result[0] < turns && central.stop == 0 {
+        second::central::turn(&LANDED, &mut central, field, &mut [], &mut |_| ());
+        lent.result[0] += 1;
     }
     record::keep_central(&mut lent.record, &central);
     Ok(())

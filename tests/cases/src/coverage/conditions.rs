@@ -9,7 +9,7 @@ use tozhenab::layout::{CLOCK, FL, MARK, P, PROCESSORS, PROCESSOR_P, PROCESSOR_ST
 type Condition = (&'static str, fn(&Seen) -> bool);
 
 /// A name begins with the refusal that was given, if the condition is one of a refusal.
-pub const CONDITIONS: [Condition; 51] = [
+pub const CONDITIONS: [Condition; 57] = [
     ("5: a record of another length", |s| {
         s.number == 5 && s.has_another_length()
     }),
@@ -99,6 +99,28 @@ pub const CONDITIONS: [Condition; 51] = [
     }),
     ("a turn of a stopped central processor", |s| {
         s.is_central_turn() && s.case.lent.record[STOP] != 0
+    }),
+    ("many turns ended by a stop before the last", |s| {
+        s.turns().is_some_and(|(made, asked)| made < asked) && s.stops().0 == 0
+    }),
+    ("many turns ended by a stop in the last", |s| {
+        s.turns()
+            .is_some_and(|(made, asked)| made == asked && asked > 1)
+            && s.stops().1 != 0
+    }),
+    ("many turns used up without a stop", |s| {
+        s.turns()
+            .is_some_and(|(made, asked)| made == asked && asked > 1)
+            && s.stops().1 == 0
+    }),
+    ("65,535 turns made", |s| {
+        s.turns().is_some_and(|(made, _)| made == 65_535)
+    }),
+    ("many turns of a stopped central processor", |s| {
+        s.turns().is_some_and(|(_, asked)| asked > 0) && s.stops().0 != 0
+    }),
+    ("no turns of a running central processor", |s| {
+        s.turns() == Some((0, 0)) && s.stops().0 == 0
     }),
     ("an exchange at a package in its own field", |s| {
         s.exchanged_in_field()

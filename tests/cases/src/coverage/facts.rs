@@ -99,6 +99,19 @@ impl Seen<'_> {
         self.number == 0 && matches!(self.case.call, Call::CentralTurn)
     }
 
+    /// The turns made and asked of a call of many turns.
+    pub fn turns(&self) -> Option<(u64, u64)> {
+        match self.case.call {
+            Call::CentralTurns { turns } if self.number == 0 => Some((self.after.result[0], turns)),
+            _ => None,
+        }
+    }
+
+    /// The stop of the central record before the call and after it.
+    pub fn stops(&self) -> (u64, u64) {
+        (self.case.lent.record[STOP], self.after.record[STOP])
+    }
+
     /// Whether the field of the central record ends where memory does.
     pub fn field_ends_with_memory(&self) -> bool {
         let lent = &self.case.lent;

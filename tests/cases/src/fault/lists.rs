@@ -50,7 +50,7 @@ pub fn unlisted_job(rng: &mut Rng, call: &mut Call) {
 pub fn too_many_turns(rng: &mut Rng, call: &mut Call) {
     let many = rng.pick(&[65_536, 65_537, 131_072, 1 << 32, u64::MAX]);
     match call {
-        Call::RunProgram { turns, .. } => *turns = many,
+        Call::CentralTurns { turns } | Call::RunProgram { turns, .. } => *turns = many,
         Call::Run { rounds } => *rounds = many,
         Call::Schedule { stint_turns, .. } if !stint_turns.is_empty() => {
             let at = rng.place(stint_turns.len());
