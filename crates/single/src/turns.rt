@@ -18,7 +18,7 @@ pub struct TurnsAnswer {
 }
 
 // Numbers 1, 3, 5, then 8.
-pub fn turns_verdict(m: &[u64], c: Central, n: u64) -> Verdict
+pub(crate) fn turns_verdict(m: &[u64], c: Central, n: u64) -> Verdict
     ensures { λ r. ⌜ r ≡ turnsVerdict (now (m .entry)) c n ⌝ }
 {
     match host_verdict(m, c) {
@@ -33,7 +33,7 @@ pub fn turns_verdict(m: &[u64], c: Central, n: u64) -> Verdict
 }
 
 // Up to n turns. A stopped processor makes none, and nothing changes.
-pub fn turns_if_running(m: &mut [u64], c: Central, n: u64) -> Ran
+pub(crate) fn turns_if_running(m: &mut [u64], c: Central, n: u64) -> Ran
     requires { ⌜ HostAccepted (now m) c ⌝ }
     ensures { λ o. ⌜ turned (machine (now (m .exit)) (o .central)) (o .turns) ≡ turnedUpTo n (machine (now (m .entry)) c) ⌝ }
 {
