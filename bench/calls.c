@@ -12,13 +12,17 @@
 #define MOST_PERIPHERAL (TOZHENAB_PROCESSORS * TOZHENAB_PROCESSOR_WORDS)
 #define FIELD 64
 
-/* An archive from before this call has none: its address is then null. */
+/*
+ * An archive from before this call has none: its address is then null. An archive has one member,
+ * so that a weak reference finds the call where it is there.
+ */
 #pragma weak tozhenab_central_turns
 
 static uint64_t central[TOZHENAB_MEMORY_WORDS];
 static uint16_t peripheral[MOST_PERIPHERAL];
+/* A machine record begins with its central record, which the central calls are lent. */
 static uint64_t machine[TOZHENAB_MACHINE_NUMBERS];
-static uint64_t result[TOZHENAB_RAN_NUMBERS];
+static uint64_t result[TOZHENAB_RUN_NUMBERS];
 
 /* The words lent to the call that is timed. */
 static size_t words, peripheral_words;
@@ -30,7 +34,8 @@ static uint64_t one_turn(void)
 
 static uint64_t many_turns(void)
 {
-    return tozhenab_central_turns(central, words, machine, TOZHENAB_CENTRAL_NUMBERS, 1000, result, 1);
+    return tozhenab_central_turns(central, words, machine, TOZHENAB_CENTRAL_NUMBERS, 1000, result,
+                                  TOZHENAB_MADE_NUMBERS);
 }
 
 static uint64_t peripheral_turn(void)
@@ -42,7 +47,7 @@ static uint64_t peripheral_turn(void)
 static uint64_t many_rounds(void)
 {
     return tozhenab_run(central, words, peripheral, peripheral_words, machine,
-                        TOZHENAB_MACHINE_NUMBERS, 1000, result, 1);
+                        TOZHENAB_MACHINE_NUMBERS, 1000, result, TOZHENAB_RUN_NUMBERS);
 }
 
 static double seconds(void)
@@ -63,7 +68,7 @@ static void report(const char *name, size_t central_words, size_t processors, ui
         double begin = seconds();
         for (size_t i = 0; i < batch; i++) {
             if (call() != TOZHENAB_ACCEPTED) {
-                fprintf(stderr, "bench/calls: %s was refused\n", name);
+                fprintf(stderr, "%s was refused\n", name);
                 exit(1);
             }
         }

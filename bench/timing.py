@@ -47,14 +47,14 @@ def answer(command, path):
 
 def best(commands, path, times):
     """The answer, which has to be that of all programs, and the best time of each, by name."""
-    runs = []
+    texts, runs = set(), []
     for _ in range(times):
         answers = {name: answer(command, path) for name, command in commands.items()}
-        if len({text for text, _ in answers.values()}) != 1:
+        texts.update(text for text, _ in answers.values())
+        if len(texts) != 1:
             sys.exit("the answers differ")
         runs.append({name: taken for name, (_, taken) in answers.items()})
-    text = next(iter(answers.values()))[0]
-    return text, {name: min(run[name] for run in runs) for name in commands}
+    return texts.pop(), {name: min(run[name] for run in runs) for name in commands}
 
 
 def report(what, taken, unit, digits):

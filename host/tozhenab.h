@@ -16,6 +16,10 @@
  * A result slice may be longer than the result; its other elements keep their values. After a
  * refusal the result is 0 throughout. A result slice that is too short is number 6 and nothing is
  * written to it, whatever the number that is given.
+ *
+ * What a call costs: it tests every word of the memories that it is lent, whatever it then does. On
+ * 131,072 words that takes more than a thousand times one turn. So step in batches, by
+ * tozhenab_central_turns or tozhenab_run, or lend no more memory than the program needs.
  */
 #ifndef TOZHENAB_H
 #define TOZHENAB_H
@@ -115,9 +119,6 @@ uint64_t tozhenab_central_turn(uint64_t *memory, size_t memory_length, uint64_t 
  * exchange jump; ends early at a stop. A stopped processor makes none, and nothing changes; where
  * fewer are made than asked, it is stopped. n turns and then k are n + k. record: a central record.
  * result: TOZHENAB_MADE_NUMBERS. Refusals 1, 3, 5, 6 (a short result), 8.
- *
- * What it costs: every call tests all the memory that it is lent, whatever it then does. A call of
- * one turn on 131,072 words costs many thousand times the turn itself: step in batches.
  */
 uint64_t tozhenab_central_turns(uint64_t *memory, size_t memory_length, uint64_t *record,
                                 size_t record_length, uint64_t turns, uint64_t *result,

@@ -94,7 +94,7 @@ pub fn all_below(m: &[u64], limit: u64) -> bool
     true
 }
 
-// Each word of memory has 60 bits. The words are joined without a way out of the loop, which the compiler makes wide instructions of.
+// Each word of memory has 60 bits. The words are ORed in one pass without an early exit, of which the compiler makes wide instructions.
 pub fn words_fit(m: &[u64]) -> bool
     ensures { λ r. ⌜ r ≡ wordsFit (now (m .entry)) ⌝ }
 {

@@ -60,24 +60,30 @@ fn feed_all(
 {
     let mut progress = r.progress;
     let mut line = r.line;
-    let mut filled = fill(&mut line, r.length, bytes, 0);
-    while filled.at < bytes.len() {
-        let length = filled.length;
-        let said = line_of(&line[..length]);
-        progress = apply(
-            progress,
-            said,
-            &mut *memory,
-            &mut *jobs,
-            &mut *stint_jobs,
-            &mut *stint_turns,
-        );
-        filled = fill(&mut line, 0, bytes, filled.at + 1);
+    let mut begun = r.length;
+    let mut at: usize = 0;
+    while at < bytes.len() {
+        let filled = fill(&mut line, begun, bytes, at);
+        at = filled.at;
+        begun = filled.length;
+        if at < bytes.len() {
+            let said = line_of(&line[..begun]);
+            progress = apply(
+                progress,
+                said,
+                &mut *memory,
+                &mut *jobs,
+                &mut *stint_jobs,
+                &mut *stint_turns,
+            );
+            begun = 0;
+            at = at + 1;
+        }
     }
     Reader {
         progress,
         line,
-        length: filled.length,
+        length: begun,
     }
 }
 

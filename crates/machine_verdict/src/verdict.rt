@@ -90,7 +90,7 @@ fn peripheral_length_fits(words: usize) -> bool
     words % 4096 == 0
 }
 
-// No word of peripheral memory is over 4,095. Joined as the central words are, in `words_fit`.
+// No word of peripheral memory is over 4,095: tested in one pass, as in `words_fit`.
 fn short_words_fit(m: &[u16]) -> bool
     ensures { λ r. ⌜ r ≡ shortWordsFit (now (m .entry)) ⌝ }
 {

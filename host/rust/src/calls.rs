@@ -53,8 +53,7 @@ pub fn central_turn(memory: &mut [u64], record: &mut CentralRecord) -> Result<()
 /// of turns made, the stopping one included. They end early at a stop; a stopped processor makes
 /// none, and nothing changes. n turns and then k are n + k.
 ///
-/// Every call tests all the memory that it is lent, so that a call of one turn on 131,072 words
-/// costs many thousand times the turn itself: step in batches.
+/// Every call tests all the memory that it is lent: step in batches.
 pub fn central_turns(
     memory: &mut [u64],
     record: &mut CentralRecord,

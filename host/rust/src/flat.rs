@@ -108,9 +108,6 @@ pub fn central_turn(memory: &mut [u64], record: &mut [u64]) -> u64 {
 
 /// Up to so many turns of the central processor, ended early by a stop; the result is the turns
 /// made. Refusals 1, 3, 5, 6, 8.
-///
-/// Every call tests all the memory that it is lent, so that a call of one turn on 131,072 words
-/// costs many thousand times the turn itself: step in batches.
 pub fn central_turns(
     memory: &mut [u64],
     record: &mut [u64],

@@ -11,8 +11,8 @@ use tozhenab::layout::{CENTRAL_NUMBERS, EM, FL, P, RA};
 /// Most words of a field that is filled with a program.
 const MOST_FILLED: usize = 256;
 
-/// Most turns of a stint.
-const MOST_TURNS: u64 = 65_535;
+/// Most turns of a stint or a call.
+pub const MOST_TURNS: u64 = 65_535;
 
 /// Where a job's package and field are.
 #[derive(Clone, Copy, Default)]

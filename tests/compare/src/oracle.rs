@@ -5,7 +5,7 @@
 //! second emulator says of the rest.
 
 use crate::record::{self, Parts};
-use cases::{Call, Lent};
+use cases::{Call, Lent, MOST_TURNS};
 use second::machine::Machine;
 use second::{Made, Requests};
 use tozhenab::layout::{CENTRAL_NUMBERS, MACHINE_NUMBERS, P, PROCESSORS};
@@ -15,9 +15,6 @@ const LANDED: Requests = Requests {
     b: true,
     ..Requests::none()
 };
-
-/// Most turns of a call.
-const MOST_TURNS: u64 = 65_535;
 
 /// Makes the call on what is lent and gives its number.
 pub fn call(call: &Call, lent: &mut Lent) -> u64 {
@@ -64,10 +61,10 @@ fn central_call(call: &Call, lent: &mut Lent) -> Result<(), u8> {
     Ok(())
 }
 
-/// The second emulator has no call of many turns: its turns are made one by one, as long as it runs.
+/// The second emulator has no call of many turns; they are those that its stints make.
 fn turns_call(turns: u64, lent: &mut Lent, room: bool) -> Result<(), u8> {
     let mut central = central_of(&lent.record);
-    // A turn of a stopped processor changes nothing and meets numbers 1 to 5.
+    // A turn of a stopped processor changes nothing and meets numbers 1, 3 and 5.
     let mut stopped = central.clone();
     stopped.stop = stopped.stop.max(1);
     second::central_turn(&LANDED, &mut lent.memory, &mut [], &mut stopped)?;
@@ -78,10 +75,9 @@ fn turns_call(turns: u64, lent: &mut Lent, room: bool) -> Result<(), u8> {
         return Err(8);
     }
     let field = &mut lent.memory[central.field()];
-    while lent.result[0] < turns && central.stop == 0 {
-        second::central::turn(&LANDED, &mut central, field, &mut [], &mut |_| ());
-        lent.result[0] += 1;
-    }
+    let turns = turns as u32;
+    let made = second::central::turns(&LANDED, &mut central, field, &mut [], turns, &mut |_| ());
+    lent.result[0] = made.into();
     record::keep_central(&mut lent.record, &central);
     Ok(())
 }

@@ -1,5 +1,5 @@
--- The width of every word, tested in one pass: the words' logical sum has it where each of them has. Assumes nothing.
-use mathlib.Core.Bool.{true, _&&_}
+-- The width of every word, tested in one pass: the words' logical sum has it exactly where each of them has. Assumes nothing.
+use mathlib.Core.Bool.{_&&_}
 use mathlib.Core.List.{List}
 use mathlib.Core.Path.{_≡_, ap, _∙_}
 use Prim.Native.Nat.{ℕ, _+_, _^_, _≤_, _<_}
@@ -13,7 +13,7 @@ use Rattle.word.specs.Laws.Logic.{or-width}
 use Rattle.central_record.specs.Indexed.{allBelow}
 use Rattle.central_record.specs.Record.{below}
 
--- the state of the loop: all is the sum of the first i words
+-- the state of the loop: all has k bits exactly where each of the first i words has
 pub record Joined (k : ℕ) (m : List ℕ) (i all : ℕ) : Type 0 where
   pub most : i ≤ length m
   pub is : ltb all (2 ^ k) ≡ allBelow i (below (2 ^ k) m)

@@ -31,25 +31,17 @@ pub room-same : {m m′ : List ℕ} {l l′ : Lists} → Room m l → length m�
 room-same k e f g h =
     record { memory = e ∙ k .memory; jobs = f ∙ k .jobs; stintJobs = g ∙ k .stintJobs; stintTurns = h ∙ k .stintTurns }
 
--- to read on from a line feed, or from the end, gives what reading from an earlier place gives
-pub record FeedingOn (bytes : List ℕ) (at₀ : ℕ) (r₀ : Reader) (m₀ : List ℕ) (l₀ : Lists) (at : ℕ) (r : Reader) (m : List ℕ) (l : Lists) : Type 0 where
-  pub is : feedAll (heldBy r m l) (drop at bytes) ≡ feedAll (heldBy r₀ m₀ l₀) (drop at₀ bytes)
-  pub stopped : at < length bytes → getD bytes at 0 ≡ 10
+-- to read on from a place gives what all bytes give
+pub record FeedingOn (bytes : List ℕ) (r₀ : Reader) (m₀ : List ℕ) (l₀ : Lists) (at : ℕ) (r : Reader) (m : List ℕ) (l : Lists) : Type 0 where
+  pub is : feedAll (heldBy r m l) (drop at bytes) ≡ feedAll (heldBy r₀ m₀ l₀) bytes
   pub ready : ReaderReady r m l
 
--- the reader whose line was filled
-abbrev pub withLine : Progress → List ℕ → Filled → Reader
-withLine p line f = record { progress = p; line = line; length = f .length }
+pub feeding-start : {bytes : List ℕ} {r : Reader} {m : List ℕ} {l : Lists} → ReaderReady r m l → FeedingOn bytes r m l 0 r m l
+feeding-start k = record { is = refl; ready = k }
 
--- the line that has begun was filled
-pub feeding-begun : {bytes : List ℕ} {r : Reader} {m : List ℕ} {l : Lists} {line : List ℕ} {f : Filled} → ReaderReady r m l
-    → LineFilled bytes 0 (r .line) (r .length) line f → FeedingOn bytes 0 r m l (f .at) (withLine (r .progress) line f) m l
-feeding-begun {r = r} {m} {l} k g =
-    record {
-      is = feed-filled g (held (r .progress) m l) (k .begun);
-      stopped = line-feed-at g;
-      ready = record { progress = k .progress; room = k .room; begun = g .room; long = g .long };
-    }
+-- a reader with n bytes of a line
+abbrev pub withLine : Progress → List ℕ → ℕ → Reader
+withLine p line n = record { progress = p; line = line; length = n }
 
 feed-line-feed : (bytes : List ℕ) (i : ℕ) (line : List ℕ) (x : Reading) → i < length bytes → getD bytes i 0 ≡ 10
     → feedAll (feeding [] (keep (lineTo x (lineOf line)))) (drop (i + 1) bytes) ≡ feedAll (feeding line x) (drop i bytes)
@@ -65,31 +57,33 @@ feed-end : (bytes : List ℕ) (i : ℕ) (f : Feeding) → length bytes ≤ i →
 unfolding feedAll
 feed-end bytes i f h = rw (drop-of-length-le bytes h)
 
-module _ {bytes : List ℕ} {at₀ : ℕ} {r₀ : Reader} {m₀ : List ℕ} {l₀ : Lists} {at : ℕ} {r : Reader} {m : List ℕ} {l : Lists}
-    (g : FeedingOn bytes at₀ r₀ m₀ l₀ at r m l) where
-  pub feeding-here : FeedingOn bytes at r m l at r m l
-  feeding-here = record { is = refl; stopped = g .stopped; ready = g .ready }
+module _ {bytes : List ℕ} {r₀ : Reader} {m₀ : List ℕ} {l₀ : Lists} {at : ℕ} {r : Reader} {m : List ℕ} {l : Lists}
+    (g : FeedingOn bytes r₀ m₀ l₀ at r m l) where
+  module _ {line : List ℕ} {f : Filled} (k : LineFilled bytes at (r .line) (r .length) line f) where
+    -- the line was filled
+    pub feeding-filled : FeedingOn bytes r₀ m₀ l₀ (f .at) (withLine (r .progress) line (f .length)) m l
+    feeding-filled =
+        record {
+          is = feed-filled k (held (r .progress) m l) (g .ready .begun) ∙ g .is;
+          ready = record { progress = g .ready .progress; room = g .ready .room; begun = k .room; long = k .long };
+        }
 
-  -- the line was read, and the next one filled
-  pub feeding-next : {m′ : List ℕ} {l′ : Lists} {p : Progress} {said : Line} {line : List ℕ} {f : Filled} → at < length bytes
-      → said ≡ lineOf (take (r .length) (r .line)) → Applied said (r .progress) m l p m′ l′ → Room m′ l′
-      → LineFilled bytes (at + 1) (r .line) 0 line f → FeedingOn bytes at₀ r₀ m₀ l₀ (f .at) (withLine p line f) m′ l′
-  feeding-next {m′} {l′} {p} {said} {line} {f} h e a room k =
-      let read : held p m′ l′ ≡ keep (lineTo (held (r .progress) m l) (lineOf (take (r .length) (r .line)))) =
-      a .is ∙ ap (λ (x : Line). keep (lineTo (held (r .progress) m l) x)) e in
-      record {
-        is =
-            feed-filled k (held p m′ l′) (omega arith)
-            ∙ ap (λ (x : Reading). feedAll (feeding [] x) (drop (at + 1) bytes)) read
-            ∙ feed-line-feed bytes at (take (r .length) (r .line)) (held (r .progress) m l) h (g .stopped h)
-            ∙ g .is;
-        stopped = line-feed-at k;
-        ready = record { progress = a .ready; room = room; begun = k .room; long = k .long };
-      }
+    -- the line was filled to its line feed, and read
+    pub feeding-line : {m′ : List ℕ} {l′ : Lists} {p : Progress} {said : Line} → f .at < length bytes → said ≡ lineOf (take (f .length) line)
+        → Applied said (r .progress) m l p m′ l′ → Room m′ l′ → FeedingOn bytes r₀ m₀ l₀ (f .at + 1) (withLine p line 0) m′ l′
+    feeding-line {m′} {l′} {p} {said} h e a room =
+        let read : held p m′ l′ ≡ keep (lineTo (held (r .progress) m l) (lineOf (take (f .length) line))) =
+        a .is ∙ ap (λ (x : Line). keep (lineTo (held (r .progress) m l) x)) e in
+        record {
+          is =
+              ap (λ (x : Reading). feedAll (feeding [] x) (drop (f .at + 1) bytes)) read
+              ∙ feed-line-feed bytes (f .at) (take (f .length) line) (held (r .progress) m l) h (line-feed-at k h)
+              ∙ feeding-filled .is;
+          ready = record { progress = a .ready; room = room; begun = omega arith; long = k .long };
+        }
 
-  pub feeding-end : {r′ : Reader} {m′ : List ℕ} {l′ : Lists} → FeedingOn bytes 0 r′ m′ l′ at₀ r₀ m₀ l₀ → length bytes ≤ at
-      → FedAll bytes r′ m′ l′ r m l
-  feeding-end k h = record { is = sym (feed-end bytes at (heldBy r m l) h) ∙ g .is ∙ k .is; ready = g .ready }
+  pub feeding-end : length bytes ≤ at → FedAll bytes r₀ m₀ l₀ r m l
+  feeding-end h = record { is = sym (feed-end bytes at (heldBy r m l) h) ∙ g .is; ready = g .ready }
 
 -- the tests of room and counts
 room-by-test : (m : List ℕ) (l : Lists) → hasRoom m l ≡ true → Room m l

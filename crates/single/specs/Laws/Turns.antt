@@ -49,12 +49,12 @@ abbrev pub thenTurns : ℕ → Turned → Turned
 thenTurns k o = turnsBefore (o .turns) (turnedUpTo k (o .machine))
 
 -- n turns and then k are n + k turns, also where the first were ended by a stop
-pub turns-then-turns : (n k : ℕ) (h : Machine) → turnedUpTo (n + k) h ≡ thenTurns k (turnedUpTo n h)
+pub turned-add : (n k : ℕ) (h : Machine) → turnedUpTo (n + k) h ≡ thenTurns k (turnedUpTo n h)
 unfolding turnedUpTo
-turns-then-turns zero k h = rw (zero-add k) (sym (no-turns-before (turnedUpTo k h)))
-turns-then-turns (suc n) k h =
+turned-add zero k h = rw (zero-add k) (sym (no-turns-before (turnedUpTo k h)))
+turned-add (suc n) k h =
     let e : suc n + k ≡ suc (n + k) = omega arith in
-    rw e (split (eqb (h .central .stop) 0) refl (turns-then-turns n k (turnedOnce (h .memory) (h .central))))
+    rw e (split (eqb (h .central .stop) 0) refl (turned-add n k (turnedOnce (h .memory) (h .central))))
   where
     split : (z : Bool) → eqb (h .central .stop) 0 ≡ z
         → turnedUpTo (n + k) (turnedOnce (h .memory) (h .central)) ≡ thenTurns k (turnedUpTo n (turnedOnce (h .memory) (h .central)))
@@ -64,12 +64,12 @@ turns-then-turns (suc n) k h =
     split false e rest = stopped-none h k e ∙ sym (no-turns-before (turnedUpTo k h))
 
 -- at most the turns asked are made
-pub turns-most : (n : ℕ) (h : Machine) → turnedUpTo n h .turns ≤ n
+pub turned-most : (n : ℕ) (h : Machine) → turnedUpTo n h .turns ≤ n
 unfolding turnedUpTo
-turns-most zero h = lit≤ tt
-turns-most (suc n) h =
+turned-most zero h = lit≤ tt
+turned-most (suc n) h =
     of-cond (λ (o : Turned). o .turns ≤ suc n) (eqb (h .central .stop) 0)
-    (λ e. omega (arith, turns-most n (turnedOnce (h .memory) (h .central)))) (λ e. omega arith)
+    (λ e. omega (arith, turned-most n (turnedOnce (h .memory) (h .central)))) (λ e. omega arith)
 
 -- a count below the turns asked says that there is a stop
 pub fewer-stopped : (n : ℕ) (h : Machine) → turnedUpTo n h .turns < n → turnedUpTo n h .machine .central .stop ≡ 0 → ⊥
@@ -149,4 +149,4 @@ module _ (m : List ℕ) (c : Central) (count : length (c .registers) ≡ 24) (n 
   unfolding turnsAnswer
   answers-add k few =
       rw (e, again k (omega arith), of-turns-accepted m c (n + k) (turns-accepted m c n e .0) few)
-      (ap (turnsAnswered Call.Accepted) (sym (turns-then-turns n k (machine m c))))
+      (ap (turnsAnswered Call.Accepted) (sym (turned-add n k (machine m c))))
