@@ -1,6 +1,7 @@
 // A channel's record.
 
-// The word stands first: after the flags it would share machine words with them in `Effect`, and each turn would take them apart.
+// The word stands first, so that in `Effect` it lies where other effects have a number. Flags there would be split and joined by bytes in
+// every turn.
 pub struct Channel {
     // 12 bits.
     pub word: u64,

@@ -44,7 +44,8 @@ pub fn start() -> Reader
     })
 }
 
-// The bytes of a line are taken at once, and progress is touched once a line: so reading is fast.
+// The bytes of a line are taken at once, and progress is touched once a line: so reading is fast. One place calls `fill`: with two, the turns
+// of the console program took a fifth longer, since the compiler makes nearly one function of it.
 fn feed_all(
     r: Reader,
     bytes: &[u8],
