@@ -1,4 +1,4 @@
-"""Machines of ten peripheral processors and the central one that never stop, as lines of the probe format: a run of each.
+"""Machines of ten peripheral processors and the central one that never stop, as lines for check_probe: a run of each.
 
 The central processor has the program and the data of the first job of sum.in or mixed.in, in a field of its own. The
 peripheral programs are below, as octal words, at word 100 and up; every processor begins at a random code of its own and

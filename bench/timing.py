@@ -18,11 +18,16 @@ def options(words, doc):
     return source, times, earlier
 
 
+def first_of(folder, *names):
+    """The first of these files that is there, or the first: an earlier version may have it under another name."""
+    return next((folder / name for name in names if (folder / name).is_file()), folder / names[0])
+
+
 def programs(name, verb, source, earlier, folder):
     """The commands by name: this version's program, the earlier one's, and the second emulator, built in the folder."""
     commands = {"tozhenab": [HOME / "target/bin" / name]}
     if earlier:
-        commands["earlier"] = [earlier / "target/bin" / name]
+        commands["earlier"] = [first_of(earlier / "target/bin", name, name.removeprefix("check_"))]
     for command in commands.values():
         if not command[0].is_file():
             sys.exit(f"{command[0]} is missing: run rt check {name}, which proves and builds it")

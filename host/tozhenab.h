@@ -1,6 +1,6 @@
 /*
- * Tozhenab: a proved CDC 6600, called from C. Link with -lhost; `rt staticlib host` writes
- * target/staticlib/libhost.a. The rules of the machine are those of document 01.
+ * Tozhenab: a proved CDC 6600, called from C. Link with -lhost_calls; `rt staticlib host_calls` writes
+ * target/staticlib/libhost_calls.a. The rules of the machine are those of document 01.
  *
  * Every call gives the number of a refusal, or TOZHENAB_ACCEPTED. Where more than one condition is
  * met, the lowest number is given. After a refusal the memories and the record are as they were.

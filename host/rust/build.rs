@@ -1,4 +1,4 @@
-//! Links libhost.a, the archive that `rt staticlib host` writes to target/staticlib.
+//! Links libhost_calls.a, the archive that `rt staticlib host_calls` writes to target/staticlib.
 //! TOZHENAB_ARCHIVE_DIR names another directory that holds it.
 
 use std::path::PathBuf;
@@ -13,13 +13,13 @@ fn archive_directory() -> PathBuf {
 
 fn main() {
     let directory = archive_directory();
-    let archive = directory.join("libhost.a");
+    let archive = directory.join("libhost_calls.a");
     println!("cargo:rerun-if-env-changed=TOZHENAB_ARCHIVE_DIR");
     println!("cargo:rerun-if-changed={}", archive.display());
     if !archive.is_file() {
-        eprintln!("{} is not there: run rt staticlib host", archive.display());
+        eprintln!("{} is not there: run rt staticlib host_calls", archive.display());
         process::exit(1);
     }
     println!("cargo:rustc-link-search=native={}", directory.display());
-    println!("cargo:rustc-link-lib=static=host");
+    println!("cargo:rustc-link-lib=static=host_calls");
 }

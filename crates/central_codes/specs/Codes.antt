@@ -1,4 +1,4 @@
--- The rule of the table: the length and the fitness of the codes. Assumes nothing.
+-- The rule of the table: the length and the fitness of the codes.
 use mathlib.Core.Bool.{Bool, not, _||_, _&&_, cond}
 use Prim.Native.Nat.{ℕ}
 use lib.Dec.{eqb, leb}

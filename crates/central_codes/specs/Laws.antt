@@ -1,3 +1,3 @@
--- Consequences of the definitions. Assumes nothing.
+-- Consequences of the definitions.
 pub mod Codes
 pub mod Table

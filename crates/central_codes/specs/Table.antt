@@ -1,5 +1,5 @@
 -- The table by its rule. Document 02, (b): "a fixed table of 512 entries, one for each nine-bit beginning, with its rule shown over the whole
--- sheet". Assumes nothing.
+-- sheet".
 use mathlib.Core.Bool.{Bool, _&&_, cond}
 use mathlib.Core.List.{List, [], _∷_}
 use Prim.Native.Nat.{ℕ, suc, _+_, _*_, _/_, _%_}

@@ -19,7 +19,7 @@ const UNFIT_30: u8 = UNFIT as u8 + 30;
 // The entries in the order of the printed sheet, a line each, with its beginning in octal.
 // To add a code: change its entries here and its rule in specs/Codes.antt. The proof of `table` computes the test of all entries again, and
 // nothing else of this crate changes. The code's effect is its entry of a row in central_effect, where the listing no longer says `left out`;
-// the printed sheet follows (expected.py and stdout of central_sheet).
+// the printed sheet follows (expected.py and stdout of check_sheet).
 const TABLE: [u8; 512] = [
     FIT_15, // 000
     FIT_15, // 001

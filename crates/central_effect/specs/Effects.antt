@@ -1,26 +1,26 @@
--- What each code asks for, by rows of the first digit. Operands are read from the registers as they are before the instruction. Assumes nothing.
+-- What each code asks for, by rows of the first digit. Operands are read from the registers as they are before the instruction.
 use mathlib.Core.Bool.{Bool, cond}
 use mathlib.Core.List.{List, [], _∷_}
 use Prim.Native.Nat.{ℕ, _+_, _*_, _/_, _%_, _^_}
 use lib.Dec.{eqb}
 use lib.ListN.{getD}
-use Rattle.word.specs.Bits.{low}
-use Rattle.word.specs.Sums.{sum, difference, signExtend}
-use Rattle.word.specs.Logic.{logical}
-use Rattle.branch_condition.specs.Conditions.{wordCondition, comparison}
-use Rattle.shift.specs.Shifts.{rotateLeft, mask, shiftRightSigned, nominalLeft, nominalRight, countOnes}
-use Rattle.shift.specs.Floating.{coefficientOf, exponentOf, packed}
-use Rattle.outcome.specs.declared.stop.CentralStop.the-variants as Because
-use Rattle.instruction.specs.Registers.{aOf, bOf, xOf}
-use Rattle.instruction.specs.declared.instruction.Instruction.{Instruction}
-use Rattle.central_effect.specs.declared.effect.Effect.{Effect}
-use Rattle.central_effect.specs.declared.effect.Effect.the-variants.{Pass, Stop, Jump, ReturnJump, SetA, SetB, SetX, SetXB}
+use Rattle.word_arithmetic.specs.Bits.{low}
+use Rattle.word_arithmetic.specs.Sums.{sum, difference, signExtend}
+use Rattle.word_arithmetic.specs.Logic.{logical}
+use Rattle.central_condition.specs.Conditions.{wordCondition, comparison}
+use Rattle.word_shift.specs.Shifts.{rotateLeft, mask, shiftRightSigned, nominalLeft, nominalRight, countOnes}
+use Rattle.word_shift.specs.Floating.{coefficientOf, exponentOf, packed}
+use Rattle.base_outcome.specs.declared.stop.CentralStop.the-variants as Because
+use Rattle.central_registers.specs.Registers.{aOf, bOf, xOf}
+use Rattle.central_decode.specs.declared.instruction.Instruction.{Instruction}
+use Rattle.central_effect.specs.declared.effect.CentralEffect.{CentralEffect}
+use Rattle.central_effect.specs.declared.effect.CentralEffect.the-variants.{Pass, Stop, Jump, ReturnJump, SetA, SetB, SetX, SetXB}
 
 -- a code of the row that is left out
-abbrev pub leftOut : Effect
+abbrev pub leftOut : CentralEffect
 leftOut = Stop Because.UnfitCode
 
-abbrev pub jumpIf : Bool → ℕ → Effect
+abbrev pub jumpIf : Bool → ℕ → CentralEffect
 jumpIf t k = cond t (Jump k) Pass
 
 -- "010 writes 0400, P + 1 (six digits) and ten zeros"
@@ -28,7 +28,7 @@ abbrev pub returnWord : ℕ → ℕ
 returnWord p = 0o0400 * 2 ^ 48 + (p + 1) * 2 ^ 30
 
 -- 00 stops; 010; "02: P is Bi + K"; 03 by the condition i of Xj
-abbrev pub firstBranches : List ℕ → Instruction → ℕ → List Effect
+abbrev pub firstBranches : List ℕ → Instruction → ℕ → List CentralEffect
 firstBranches r q p =
     Stop Because.Halt
     ∷ ReturnJump (q .constant) (returnWord p)
@@ -37,16 +37,16 @@ firstBranches r q p =
     ∷ []
 
 -- 00 to 07 in the word at p; "04 to 07 compare Bi and Bj"
-unfoldable pub branchOf : List ℕ → Instruction → ℕ → ℕ → Effect
+unfoldable pub branchOf : List ℕ → Instruction → ℕ → ℕ → CentralEffect
 branchOf r q m p =
     getD (firstBranches r q p) m (jumpIf (comparison m (bOf r (q .i)) (bOf r (q .j))) (q .constant))
 
 -- "26 sends the signed coefficient to Xi, e to Bj"
-unfoldable pub unpackTo : ℕ → ℕ → ℕ → Effect
+unfoldable pub unpackTo : ℕ → ℕ → ℕ → CentralEffect
 unpackTo i j x = SetXB i (coefficientOf x) j (exponentOf x)
 
 -- 20 to 27: 20 and 21 shift Xi by jk, 22 and 23 Xk by Bj, 26 unpacks Xk, 27 packs it with Bj
-abbrev pub shifts : List ℕ → Instruction → List Effect
+abbrev pub shifts : List ℕ → Instruction → List CentralEffect
 shifts r q =
     SetX (q .i) (rotateLeft 60 (xOf r (q .i)) (q .jk))
     ∷ SetX (q .i) (shiftRightSigned 60 (xOf r (q .i)) (q .jk))
@@ -58,17 +58,17 @@ shifts r q =
     ∷ SetX (q .i) (packed (bOf r (q .j)) (xOf r (q .k)))
     ∷ []
 
-unfoldable pub shiftOf : List ℕ → Instruction → ℕ → Effect
+unfoldable pub shiftOf : List ℕ → Instruction → ℕ → CentralEffect
 shiftOf r q m = getD (shifts r q) m leftOut
 
 -- "36, 37 sums": Xj + Xk and Xj - Xk
-unfoldable pub sumOf : List ℕ → Instruction → ℕ → Effect
+unfoldable pub sumOf : List ℕ → Instruction → ℕ → CentralEffect
 sumOf r q m =
     cond (eqb m 6) (SetX (q .i) (sum 60 (xOf r (q .j)) (xOf r (q .k))))
     (cond (eqb m 7) (SetX (q .i) (difference 60 (xOf r (q .j)) (xOf r (q .k)))) leftOut)
 
 -- "43 sets the top jk bits of Xi"; "46 passes"; "47 counts the ones of Xk into Xi"
-unfoldable pub maskOrCountOf : List ℕ → Instruction → ℕ → Effect
+unfoldable pub maskOrCountOf : List ℕ → Instruction → ℕ → CentralEffect
 maskOrCountOf r q m =
     cond (eqb m 3) (SetX (q .i) (mask 60 (q .jk)))
     (cond (eqb m 6) Pass (cond (eqb m 7) (SetX (q .i) (countOnes 60 (xOf r (q .k)))) leftOut))
@@ -90,8 +90,8 @@ unfoldable pub operandOf : List ℕ → Instruction → ℕ → ℕ
 operandOf r q m = getD (operands r q) m 0
 
 -- each row; "50 to 57 set Ai", "60s set Bi, 70s Xi with the sign extended"
-abbrev pub rows : List ℕ → Instruction → ℕ → ℕ → List Effect
-rows r q m p =
+abbrev pub centralRows : List ℕ → Instruction → ℕ → ℕ → List CentralEffect
+centralRows r q m p =
     branchOf r q m p
     ∷ SetX (q .i) (logical m (xOf r (q .j)) (xOf r (q .k)))
     ∷ shiftOf r q m
@@ -103,5 +103,5 @@ rows r q m p =
     ∷ []
 
 -- the effect of the instruction q of the word at p
-unfoldable pub effectOf : List ℕ → Instruction → ℕ → Effect
-effectOf r q p = getD (rows r q (q .code % 8) p) (q .code / 8) leftOut
+unfoldable pub effectOf : List ℕ → Instruction → ℕ → CentralEffect
+effectOf r q p = getD (centralRows r q (q .code % 8) p) (q .code / 8) leftOut

@@ -1,5 +1,5 @@
--- The definitions that the contracts of `central_effect` cite, over those of `instruction`. A reader has to believe these, but for `Sound`,
--- which only says what an effect may name; `Laws` is proved from them.
+-- The definitions that the contracts of `central_effect` cite, over those of `central_registers` and `central_decode`. A reader has to
+-- believe these, but for `Sound`, which only says what an effect may name; `Laws` is proved from them.
 pub mod Effects
 pub mod Sound
 pub mod Laws

@@ -2,16 +2,17 @@
 ghost use mathlib.Core.Path.{_≡_};
 ghost use Prim.Native.Nat.{_<_};
 ghost use Rattle.central_effect.specs.Effects.{returnWord, branchOf};
-ghost use Rattle.instruction.specs.Widths.{Wide, Fit};
-use super::effect::Effect;
+ghost use Rattle.central_decode.specs.Widths.{Fit};
+ghost use Rattle.central_registers.specs.Widths.{Wide};
+use super::effect::CentralEffect;
 use super::effect::jump_if;
-use branch_condition::conditions::comparison;
-use branch_condition::conditions::word_condition;
-use instruction::instruction::Instruction;
-use instruction::registers::b_of;
-use instruction::registers::x_of;
-use outcome::stop::CentralStop;
-use word::sums::sum18;
+use base_outcome::stop::CentralStop;
+use central_condition::conditions::comparison;
+use central_condition::conditions::word_condition;
+use central_decode::instruction::Instruction;
+use central_registers::registers::b_of;
+use central_registers::registers::x_of;
+use word_arithmetic::sums::sum18;
 
 // What 010 writes: 0400, P + 1 and ten zeros.
 fn return_word(p: u64) -> u64
@@ -22,7 +23,7 @@ fn return_word(p: u64) -> u64
 }
 
 // Code 0m in the word at p.
-pub(crate) fn effect_of(r: &[u64; 24], q: Instruction, m: u64, p: u64) -> Effect
+pub(crate) fn effect_of(r: &[u64; 24], q: Instruction, m: u64, p: u64) -> CentralEffect
     requires { ⌜ Wide (now r) ⌝ }
     requires { ⌜ Fit q ⌝ }
     requires { ⌜ m < 8 ⌝ }
@@ -33,9 +34,9 @@ pub(crate) fn effect_of(r: &[u64; 24], q: Instruction, m: u64, p: u64) -> Effect
     let j = q.j;
     let k = q.constant;
     match m {
-        0 => Effect::Stop(CentralStop::Halt),
-        1 => Effect::ReturnJump(k, return_word(p)),
-        2 => Effect::Jump(sum18(b_of(r, i), k)),
+        0 => CentralEffect::Stop(CentralStop::Halt),
+        1 => CentralEffect::ReturnJump(k, return_word(p)),
+        2 => CentralEffect::Jump(sum18(b_of(r, i), k)),
         3 => jump_if(word_condition(i as u64, x_of(r, j)), k),
         _ => jump_if(comparison(m, b_of(r, i), b_of(r, j)), k),
     }

@@ -1,9 +1,9 @@
 // What an instruction asks for, worked out from the registers without writing any.
 ghost use mathlib.Core.Path.{_≡_};
 ghost use Rattle.central_effect.specs.Effects.{jumpIf};
-use outcome::stop::CentralStop;
+use base_outcome::stop::CentralStop;
 
-pub enum Effect {
+pub enum CentralEffect {
     Pass,
     Stop(CentralStop),
     // A taken branch: the new P.
@@ -19,12 +19,12 @@ pub enum Effect {
 }
 
 // A branch with its condition.
-pub(crate) fn jump_if(taken: bool, target: u64) -> Effect
+pub(crate) fn jump_if(taken: bool, target: u64) -> CentralEffect
     ensures { λ e. ⌜ e ≡ jumpIf taken target ⌝ }
 {
     if taken {
-        Effect::Jump(target)
+        CentralEffect::Jump(target)
     } else {
-        Effect::Pass
+        CentralEffect::Pass
     }
 }

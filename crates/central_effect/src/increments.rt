@@ -2,14 +2,15 @@
 ghost use mathlib.Core.Path.{_≡_};
 ghost use Prim.Native.Nat.{_<_};
 ghost use Rattle.central_effect.specs.Effects.{operandOf};
-ghost use Rattle.instruction.specs.Widths.{Wide, Fit};
-use instruction::instruction::Instruction;
-use instruction::registers::a_of;
-use instruction::registers::b_of;
-use instruction::registers::x_of;
-use word::sums::difference18;
-use word::sums::low18;
-use word::sums::sum18;
+ghost use Rattle.central_decode.specs.Widths.{Fit};
+ghost use Rattle.central_registers.specs.Widths.{Wide};
+use central_decode::instruction::Instruction;
+use central_registers::registers::a_of;
+use central_registers::registers::b_of;
+use central_registers::registers::x_of;
+use word_arithmetic::sums::difference18;
+use word_arithmetic::sums::low18;
+use word_arithmetic::sums::sum18;
 
 // Codes 5m, 6m and 7m.
 pub(crate) fn operand(r: &[u64; 24], q: Instruction, m: u64) -> u64

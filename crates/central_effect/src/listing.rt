@@ -1,10 +1,10 @@
 // The one listing of the central processor's instructions.
 ghost use mathlib.Core.Path.{_≡_};
 ghost use Prim.Native.Nat.{_<_};
-ghost use Rattle.instruction.specs.Shifted.{decodedTop};
-ghost use Rattle.instruction.specs.Widths.{Wide};
+ghost use Rattle.central_decode.specs.Shifted.{decodedTop};
+ghost use Rattle.central_registers.specs.Widths.{Wide};
 ghost use Rattle.central_effect.specs.Effects.{effectOf};
-use super::effect::Effect;
+use super::effect::CentralEffect;
 use super::rows::branch;
 use super::rows::logic;
 use super::rows::mask_or_count;
@@ -16,7 +16,7 @@ use super::rows::sum;
 
 // The effect of the instruction at the top of v, of the word at p: an arm for each code, with its name in the manual. A code left out does
 // not get here; were it to, its row would stop it.
-pub fn effect_of(r: &[u64; 24], v: u64, p: u64) -> Effect
+pub fn effect_of(r: &[u64; 24], v: u64, p: u64) -> CentralEffect
     requires { ⌜ Wide (now r) ⌝ }
     requires { ⌜ p < 131072 ⌝ }
     ensures { λ e. ⌜ e ≡ effectOf (now (r .entry)) (decodedTop v) p ⌝ }

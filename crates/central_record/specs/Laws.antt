@@ -1,4 +1,3 @@
--- Consequences of the definitions. Assumes nothing.
-pub mod Indexed
+-- Consequences of the definitions.
 pub mod Record
 pub mod Widths

@@ -1,17 +1,17 @@
--- The central record and the memory that the host lends, by document 01, "Memory and records" and "Who can be turned down". Assumes nothing.
+-- The central record and the memory that the host lends, by document 01, "Memory and records" and "Who can be turned down".
 use Prim.Native.Nat.{ℕ, _+_, _*_, _^_, _<_}
 use mathlib.Core.Bool.{Bool, true, _&&_, cond}
 use mathlib.Core.List.{List}
 use mathlib.Core.Path.{_≡_}
 use lib.Dec.{ltb, leb, eqb}
 use lib.ListN.{length, getD}
-use Rattle.word.specs.Bits.{bits}
-use Rattle.outcome.specs.declared.refusal.Refusal.the-variants as Refusal
-use Rattle.outcome.specs.declared.refusal.Verdict.{Verdict}
-use Rattle.outcome.specs.declared.refusal.Verdict.the-variants as Call
-use Rattle.instruction.specs.Registers.{bOf}
+use Rattle.word_arithmetic.specs.Bits.{bits}
+use Rattle.base_outcome.specs.declared.refusal.Refusal.the-variants as Refusal
+use Rattle.base_outcome.specs.declared.refusal.Verdict.{Verdict}
+use Rattle.base_outcome.specs.declared.refusal.Verdict.the-variants as Call
+use Rattle.central_registers.specs.Registers.{bOf}
 use Rattle.central_record.specs.declared.record.Central.{Central}
-use Rattle.central_record.specs.Indexed.{allBelow}
+use Rattle.base_lists.specs.Indexed.{allBelow}
 
 -- "EM has the bits 010000 (address), 020000 and 040000": bits 12 to 14, and no other
 unfoldable pub emFits : ℕ → Bool

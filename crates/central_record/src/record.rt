@@ -1,10 +1,10 @@
 // The central processor's record, and the tests of what the host lends: numbers 1, 3 and 5.
-use outcome::refusal::Refusal;
-use outcome::refusal::Verdict;
+use base_outcome::refusal::Refusal;
+use base_outcome::refusal::Verdict;
 ghost use mathlib.Core.Path.{_≡_};
 ghost use Prim.Native.Nat.{_^_};
 ghost use lib.ListN.{length};
-ghost use Rattle.central_record.specs.Indexed.{allBelow};
+ghost use Rattle.base_lists.specs.Indexed.{allBelow};
 ghost use Rattle.central_record.specs.Record.{emFits, registerWidth, registersFit, recordFits, lengthFits, below, wordsFit, hostVerdict};
 
 // The central processor's record.

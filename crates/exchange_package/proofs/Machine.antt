@@ -1,11 +1,11 @@
--- Three fields of 18 bits in a machine word. Assumes nothing.
+-- Three fields of 18 bits in a machine word.
 use mathlib.Core.Path.{_≡_}
 use Prim.Native.Nat.{ℕ, _+_, _*_, _%_, _^_, _<_}
 use native.Mathlib.Omega.{arith}
 use lib.Bits.{bitOr}
 use lib.Dec.{lit≤}
 use lib.Pow.{shl-exact}
-use Rattle.word.proofs.Machine.{or-low, or-shifted-left}
+use Rattle.word_arithmetic.proofs.Machine.{or-low, or-shifted-left}
 
 pub three-fields : (upper a b : ℕ) → upper < 2 ^ 18 → a < 2 ^ 18 → b < 2 ^ 18
     → bitOr (bitOr (upper * 2 ^ 36 % 2 ^ 64) (a * 2 ^ 18 % 2 ^ 64)) b ≡ upper * 2 ^ 36 + a * 2 ^ 18 + b

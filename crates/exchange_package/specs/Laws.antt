@@ -1,4 +1,3 @@
--- Consequences of the definitions. Assumes nothing.
-pub mod Memory
+-- Consequences of the definitions.
 pub mod Package
 pub mod Example

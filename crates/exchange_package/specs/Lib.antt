@@ -1,4 +1,3 @@
 -- The definitions that the contracts of `exchange_package` cite. A reader has to believe these; `Laws` is proved from them.
-pub mod Memory
 pub mod Package
 pub mod Laws

@@ -1,13 +1,13 @@
--- The exchange package, by document 01, "Memory and records": "A package is 16 words." Assumes nothing.
+-- The exchange package, by document 01, "Memory and records": "A package is 16 words."
 use Prim.Native.Nat.{ℕ, _+_, _-_, _*_, _^_}
 use mathlib.Core.Bool.{Bool, not, _&&_, cond}
 use mathlib.Core.List.{List, [], _∷_}
 use lib.Dec.{ltb, eqb}
 use lib.ListN.{getD}
-use Rattle.word.specs.Bits.{bits}
-use Rattle.instruction.specs.Registers.{aOf, bOf, xOf}
+use Rattle.word_arithmetic.specs.Bits.{bits}
+use Rattle.central_registers.specs.Registers.{aOf, bOf, xOf}
 use Rattle.central_record.specs.declared.record.Central.{Central}
-use Rattle.central_record.specs.Indexed.{allBelow, tabulate}
+use Rattle.base_lists.specs.Indexed.{allBelow, tabulate}
 use Rattle.central_record.specs.Record.{emFits}
 
 -- "Bits 53 to 36 of words 0 to 3 hold P, RA, FL, EM."
@@ -32,8 +32,8 @@ abbrev pub controlIn : List ℕ → ℕ → ℕ
 controlIn w n = bits (getD w n 0) 36 18
 
 -- the record of a package, with the processor running
-unfoldable pub decoded : List ℕ → Central
-decoded w =
+unfoldable pub packageRecord : List ℕ → Central
+packageRecord w =
     record {
       p = controlIn w 0;
       ra = controlIn w 1;

@@ -4,11 +4,11 @@ use central_record::record::em_fits;
 ghost use mathlib.Core.Path.{_≡_};
 ghost use Prim.Native.Nat.{_+_, _^_, _≤_, _<_};
 ghost use lib.ListN.{length, getD};
-ghost use Rattle.word.specs.Bits.{bits};
-ghost use Rattle.central_record.specs.Indexed.{allBelow, tabulate};
+ghost use Rattle.word_arithmetic.specs.Bits.{bits};
+ghost use Rattle.base_lists.specs.Indexed.{allBelow, tabulate};
 ghost use Rattle.central_record.specs.Record.{FitsPackage};
-ghost use Rattle.exchange_package.specs.Memory.{part};
-ghost use Rattle.exchange_package.specs.Package.{controls, packageWord, coded, registerIn, decoded, bitsInUse, wordHasNoStray, hasStray};
+ghost use Rattle.base_lists.specs.Parts.{part};
+ghost use Rattle.exchange_package.specs.Package.{controls, packageWord, coded, registerIn, packageRecord, bitsInUse, wordHasNoStray, hasStray};
 
 // The 18 bits of a word from this bit up.
 fn bits18(w: u64, first: u64) -> u64
@@ -51,7 +51,7 @@ fn registers_in(w: &[u64]) -> [u64; 24]
 // The record in a package's sixteen words.
 fn decode(w: &[u64]) -> Central
     requires { ⌜ length (now w) ≡ 16 ⌝ }
-    ensures { λ r. ⌜ r ≡ decoded (now (w .entry)) ⌝ }
+    ensures { λ r. ⌜ r ≡ packageRecord (now (w .entry)) ⌝ }
 {
     let registers = registers_in(w);
     Central {
@@ -67,7 +67,7 @@ fn decode(w: &[u64]) -> Central
 // The record in the package at this address.
 pub fn load(m: &[u64], at: usize) -> Central
     requires { ⌜ at + 16 ≤ length (now m) ⌝ }
-    ensures { λ r. ⌜ r ≡ decoded (part (now (m .entry)) at 16) ⌝ }
+    ensures { λ r. ⌜ r ≡ packageRecord (part (now (m .entry)) at 16) ⌝ }
 {
     let end = at + 16;
     decode(&m[at..end])

@@ -2,22 +2,22 @@
 ghost use mathlib.Core.Path.{_≡_};
 ghost use Prim.Native.Nat.{_<_, _≤_};
 ghost use Rattle.peripheral_io.specs.Channels.{condition, jumpChannel, channelJump, changed, inputFrom, outputTo, changeOf, changeOn};
-ghost use Rattle.processor.specs.Widths.{Memory, Held};
-use channel::codes::Change;
-use channel::codes::activate;
-use channel::codes::disconnect;
-use channel::codes::function;
-use channel::codes::input;
-use channel::codes::output;
-use channel::record::Channel;
-use machine::effect::Effect;
-use machine::numbers::Processor;
-use machine::numbers::channel_of;
-use machine::numbers::clock;
-use outcome::stop::PeripheralStop;
-use processor::addresses::onward;
-use processor::addresses::second;
-use word::sums::low12;
+ghost use Rattle.peripheral_codes.specs.Widths.{Memory, Held};
+use base_outcome::stop::PeripheralStop;
+use peripheral_channel::codes::Change;
+use peripheral_channel::codes::activate;
+use peripheral_channel::codes::disconnect;
+use peripheral_channel::codes::function;
+use peripheral_channel::codes::input;
+use peripheral_channel::codes::output;
+use peripheral_channel::record::Channel;
+use peripheral_codes::addresses::onward;
+use peripheral_codes::addresses::second;
+use peripheral_machine::effect::PeripheralEffect;
+use peripheral_machine::numbers::Processor;
+use peripheral_machine::numbers::channel_of;
+use peripheral_machine::numbers::clock;
+use word_arithmetic::sums::low12;
 
 // Channel 14 is the clock, and there is none above it.
 const CLOCK: u64 = 0o14;
@@ -52,48 +52,48 @@ fn jump_channel(s: &[u64; 84], d: u64) -> Channel
 }
 
 // Code 6k, k from 4.
-pub fn channel_jump(m: &[u16], s: &[u64; 84], q: Processor, k: u64, d: u64) -> Effect
+pub fn channel_jump(m: &[u16], s: &[u64; 84], q: Processor, k: u64, d: u64) -> PeripheralEffect
     requires { ⌜ Memory (now m) ⌝ }
     requires { ⌜ Held q ⌝ }
     requires { ⌜ (4 ≤ k) × (k < 8) ⌝ }
     ensures { λ e. ⌜ e ≡ channelJump (now (m .entry)) (now (s .entry)) q k d ⌝ }
 {
     if CLOCK < d {
-        return Effect::Stop(PeripheralStop::NoChannel);
+        return PeripheralEffect::Stop(PeripheralStop::NoChannel);
     }
     if condition(jump_channel(s, d), k) {
-        return Effect::Advance(second(m, q.p), q.a);
+        return PeripheralEffect::Advance(second(m, q.p), q.a);
     }
-    Effect::Advance(onward(q.p, 2), q.a)
+    PeripheralEffect::Advance(onward(q.p, 2), q.a)
 }
 
-fn changed(p: u64, a: u64, d: u64, change: Change) -> Effect
+fn changed(p: u64, a: u64, d: u64, change: Change) -> PeripheralEffect
     ensures { λ e. ⌜ e ≡ changed p a d change ⌝ }
 {
     match change {
-        Change::Wait => Effect::Wait,
-        Change::To(c) => Effect::SetChannel(p, a, d as usize, c),
+        Change::Wait => PeripheralEffect::Wait,
+        Change::To(c) => PeripheralEffect::SetChannel(p, a, d as usize, c),
     }
 }
 
 // 70.
-pub fn input_from(s: &[u64; 84], q: Processor, d: u64) -> Effect
+pub fn input_from(s: &[u64; 84], q: Processor, d: u64) -> PeripheralEffect
     requires { ⌜ Held q ⌝ }
     ensures { λ e. ⌜ e ≡ inputFrom (now (s .entry)) q d ⌝ }
 {
     let next = onward(q.p, 1);
     if d == CLOCK {
-        return Effect::Advance(next, clock(s));
+        return PeripheralEffect::Advance(next, clock(s));
     }
     if d < CLOCK {
         let c = channel_of(s, d as usize);
         return changed(next, c.word, d, input(c));
     }
-    Effect::Stop(PeripheralStop::NoChannel)
+    PeripheralEffect::Stop(PeripheralStop::NoChannel)
 }
 
 // 72.
-pub fn output_to(s: &[u64; 84], q: Processor, d: u64) -> Effect
+pub fn output_to(s: &[u64; 84], q: Processor, d: u64) -> PeripheralEffect
     requires { ⌜ Held q ⌝ }
     ensures { λ e. ⌜ e ≡ outputTo (now (s .entry)) q d ⌝ }
 {
@@ -101,11 +101,11 @@ pub fn output_to(s: &[u64; 84], q: Processor, d: u64) -> Effect
         let c = channel_of(s, d as usize);
         return changed(onward(q.p, 1), q.a, d, output(c, low12(q.a)));
     }
-    Effect::Stop(PeripheralStop::NoChannel)
+    PeripheralEffect::Stop(PeripheralStop::NoChannel)
 }
 
 // Code 7k, k from 4, on channel d, whose record is c.
-fn change_of(m: &[u16], c: Channel, q: Processor, k: u64, d: u64) -> Effect
+fn change_of(m: &[u16], c: Channel, q: Processor, k: u64, d: u64) -> PeripheralEffect
     requires { ⌜ Memory (now m) ⌝ }
     requires { ⌜ Held q ⌝ }
     requires { ⌜ (4 ≤ k) × (k < 8) ⌝ }
@@ -122,7 +122,7 @@ fn change_of(m: &[u16], c: Channel, q: Processor, k: u64, d: u64) -> Effect
 }
 
 // Code 7k, k from 4.
-pub fn change_on(m: &[u16], s: &[u64; 84], q: Processor, k: u64, d: u64) -> Effect
+pub fn change_on(m: &[u16], s: &[u64; 84], q: Processor, k: u64, d: u64) -> PeripheralEffect
     requires { ⌜ Memory (now m) ⌝ }
     requires { ⌜ Held q ⌝ }
     requires { ⌜ (4 ≤ k) × (k < 8) ⌝ }
@@ -131,5 +131,5 @@ pub fn change_on(m: &[u16], s: &[u64; 84], q: Processor, k: u64, d: u64) -> Effe
     if d < CLOCK {
         return change_of(m, channel_of(s, d as usize), q, k, d);
     }
-    Effect::Stop(PeripheralStop::NoChannel)
+    PeripheralEffect::Stop(PeripheralStop::NoChannel)
 }

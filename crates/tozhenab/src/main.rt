@@ -1,13 +1,13 @@
 // The console program: the input on standard input, its answer on standard output.
-use console::finish::OUTPUT_BYTES;
-use console::finish::Output;
-use console::finish::finish;
-use input::reader::MEMORY_WORDS;
-use input::reader::Reader;
-use input::reader::feed;
-use input::reader::start;
-use reading::progress::JOB_ENTRIES;
-use reading::progress::STINT_ENTRIES;
+use console_calls::finish::OUTPUT_BYTES;
+use console_calls::finish::Output;
+use console_calls::finish::finish;
+use console_grammar::progress::JOB_ENTRIES;
+use console_grammar::progress::STINT_ENTRIES;
+use console_reader::reader::MEMORY_WORDS;
+use console_reader::reader::Reader;
+use console_reader::reader::feed;
+use console_reader::reader::start;
 
 // What was read, and whether that is the whole input: a read that fails does not end it.
 struct Source {

@@ -9,7 +9,7 @@
 //! [`MACHINE_NUMBERS`]: crate::layout::MACHINE_NUMBERS
 //! [`CHANNEL_NUMBERS`]: crate::layout::CHANNEL_NUMBERS
 
-/// The C functions of libhost.a.
+/// The C functions of libhost_calls.a.
 ///
 /// They ask for pointers that are not null, aligned, valid for the number of elements that follows
 /// each, and exclusive where they are `*mut`. That is what a `&mut` slice is, also an empty one; a

@@ -1,4 +1,4 @@
-//! The call of a case, on libhost.a.
+//! The call of a case, on libhost_calls.a.
 
 use crate::case::{Call, Lent};
 use tozhenab::flat;

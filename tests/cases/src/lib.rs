@@ -2,7 +2,7 @@
 //!
 //! A case is one call and all that the host lends to it. [`generate`] makes the case of a seed and
 //! an index, so that any case can be made again alone. [`archive::call`] makes the call on
-//! libhost.a. [`answer`] writes what came of it as a line of text, and [`coverage`] counts what was
+//! libhost_calls.a. [`answer`] writes what came of it as a line of text, and [`coverage`] counts what was
 //! met.
 
 #![forbid(unsafe_code)]

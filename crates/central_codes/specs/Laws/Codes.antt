@@ -1,8 +1,8 @@
--- The length of a code. Assumes nothing.
+-- The length of a code.
 use mathlib.Core.Path.{_≡_, sym, subst}
 use Prim.Native.Nat.{ℕ, _≤_}
 use native.Mathlib.Omega.{arith}
-use Rattle.word.specs.Laws.Choice.{of-cond}
+use Rattle.base_logic.specs.Laws.Choice.{of-cond}
 use Rattle.central_codes.specs.Codes.{isLong, parcelsOf}
 
 -- an instruction has one or two parcels

@@ -1,4 +1,4 @@
--- From the test of the whole sheet to the rule at each entry, and what an entry says. Assumes nothing.
+-- From the test of the whole sheet to the rule at each entry, and what an entry says.
 use mathlib.Core.Bool.{Bool, true, false, cond}
 use mathlib.Core.List.{List, [], _∷_}
 use mathlib.Core.Path.{_≡_, refl, ap, _∙_}
@@ -7,7 +7,7 @@ use native.Mathlib.Omega.{arith}
 use borrow.Author.Tests.{eqb-true}
 use lib.Dec.{eqb}
 use lib.ListN.{getD}
-use Rattle.word.specs.Laws.Tests.{both}
+use Rattle.base_logic.specs.Laws.Tests.{both}
 use Rattle.central_codes.specs.Codes.{isFit, parcelsOf}
 use Rattle.central_codes.specs.Laws.Codes.{parcels-few}
 use Rattle.central_codes.specs.Table.{entryOf, followsFrom, followsRule}

@@ -1,4 +1,4 @@
--- The effect of an instruction of one parcel does not depend on K. Assumes nothing.
+-- The effect of an instruction of one parcel does not depend on K.
 use mathlib.Core.Bool.{true, false, true≢false}
 use mathlib.Core.List.{List}
 use mathlib.Core.Path.{_≡_, refl, sym, ap, _∙_}
@@ -6,9 +6,9 @@ use Prim.Native.Nat.{ℕ, zero, suc, _+_, _*_, _/_, _%_, _<_}
 use native.Mathlib.Omega.{arith}
 use lib.ListN.{getD}
 use Rattle.central_codes.specs.Codes.{isLong}
-use Rattle.instruction.specs.Laws.Shifted.{withConstant}
-use Rattle.central_effect.specs.Effects.{branchOf, shiftOf, sumOf, maskOrCountOf, operandOf, rows, leftOut, effectOf}
-use Rattle.instruction.specs.declared.instruction.Instruction.{Instruction}
+use Rattle.central_decode.specs.Laws.Shifted.{withConstant}
+use Rattle.central_effect.specs.Effects.{branchOf, shiftOf, sumOf, maskOrCountOf, operandOf, centralRows, leftOut, effectOf}
+use Rattle.central_decode.specs.declared.instruction.Instruction.{Instruction}
 
 module _ (r : List ℕ) (q : Instruction) (n p : ℕ) where
   branch-short : (m : ℕ) → m < 8 → isLong m ≡ false → branchOf r (withConstant q n) m p ≡ branchOf r q m p
@@ -39,7 +39,7 @@ module _ (r : List ℕ) (q : Instruction) (n p : ℕ) where
   long-low f (suc (suc (suc m))) a b c e h = omega arith
 
   row-short : (f m : ℕ) → m < 8 → isLong (f * 8 + m) ≡ false
-      → getD (rows r (withConstant q n) m p) f leftOut ≡ getD (rows r q m p) f leftOut
+      → getD (centralRows r (withConstant q n) m p) f leftOut ≡ getD (centralRows r q m p) f leftOut
   unfolding shiftOf sumOf maskOrCountOf isLong
   row-short zero m h e = let z : 0 * 8 + m ≡ m = omega arith in branch-short m h (sym (ap isLong z) ∙ e)
   row-short (suc zero) m h e = refl

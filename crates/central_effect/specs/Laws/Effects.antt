@@ -1,4 +1,4 @@
--- Effects name registers that are there and values of their widths; the effect of a code by its number. Assumes nothing.
+-- Effects name registers that are there and values of their widths; the effect of a code by its number.
 use mathlib.Core.Bool.{Bool, true, false}
 use mathlib.Core.List.{List}
 use mathlib.Core.Path.{_≡_}
@@ -6,20 +6,22 @@ use Prim.Native.Nat.{ℕ, _+_, _/_, _%_, _^_, _<_}
 use native.Mathlib.Omega.{arith}
 use lib.Dec.{eqb, lit<, lit≤}
 use lib.ListN.{getD}
-use Rattle.word.specs.Bits.{low}
-use Rattle.branch_condition.specs.Conditions.{wordCondition, comparison}
-use Rattle.word.specs.Laws.Choice.{of-cond, of-getD}
-use Rattle.word.specs.Laws.Logic.{logical-lt}
-use Rattle.word.specs.Laws.Sums.{sum-lt, difference-lt, extend-lt}
-use Rattle.shift.specs.Laws.Floating.{coefficient-lt, exponent-lt, packed-lt}
-use Rattle.shift.specs.Laws.Rotation.{rotate-lt}
-use Rattle.shift.specs.Laws.Shifts.{mask-lt, signed-lt, nominal-left-lt, nominal-right-lt, count-le}
-use Rattle.instruction.specs.Registers.{aOf, bOf, xOf}
-use Rattle.central_effect.specs.Effects.{jumpIf, firstBranches, branchOf, unpackTo, shifts, leftOut, shiftOf, sumOf, maskOrCountOf, operands, operandOf, rows, effectOf}
-use Rattle.instruction.specs.Shifted.{decodedTop}
-use Rattle.instruction.specs.Widths.{Wide, Fit}
-use Rattle.central_effect.specs.Sound.{Sound}
-use Rattle.instruction.specs.declared.instruction.Instruction.{Instruction}
+use Rattle.word_arithmetic.specs.Bits.{low}
+use Rattle.central_condition.specs.Conditions.{wordCondition, comparison}
+use Rattle.base_logic.specs.Laws.Choice.{of-cond}
+use Rattle.base_lists.specs.Laws.Each.{of-getD}
+use Rattle.word_arithmetic.specs.Laws.Logic.{logical-lt}
+use Rattle.word_arithmetic.specs.Laws.Sums.{sum-lt, difference-lt, extend-lt}
+use Rattle.word_shift.specs.Laws.Floating.{coefficient-lt, exponent-lt, packed-lt}
+use Rattle.word_shift.specs.Laws.Rotation.{rotate-lt}
+use Rattle.word_shift.specs.Laws.Shifts.{mask-lt, signed-lt, nominal-left-lt, nominal-right-lt, count-le}
+use Rattle.central_registers.specs.Registers.{aOf, bOf, xOf}
+use Rattle.central_effect.specs.Effects.{jumpIf, firstBranches, branchOf, unpackTo, shifts, leftOut, shiftOf, sumOf, maskOrCountOf, operands, operandOf, centralRows, effectOf}
+use Rattle.central_decode.specs.Shifted.{decodedTop}
+use Rattle.central_decode.specs.Widths.{Fit}
+use Rattle.central_registers.specs.Widths.{Wide}
+use Rattle.central_effect.specs.Sound.{CentralSound}
+use Rattle.central_decode.specs.declared.instruction.Instruction.{Instruction}
 
 module _ (r : List ℕ) (q : Instruction) (w : Wide r) (f : Fit q) where
   a-lt : (i : ℕ) → i < 8 → aOf r i < 2 ^ 18
@@ -53,14 +55,14 @@ module _ (r : List ℕ) (q : Instruction) (w : Wide r) (f : Fit q) where
       )
       (lit< tt)
 
-  jump-sound : (t : Bool) → Sound (jumpIf t (q .constant))
+  jump-sound : (t : Bool) → CentralSound (jumpIf t (q .constant))
   jump-sound true = f .constant
   jump-sound false = tt
 
-  branch-sound : (m p : ℕ) → p < 131072 → Sound (branchOf r q m p)
+  branch-sound : (m p : ℕ) → p < 131072 → CentralSound (branchOf r q m p)
   unfolding branchOf
   branch-sound m p h =
-      of-getD Sound (firstBranches r q p) m _ (
+      of-getD CentralSound (firstBranches r q p) m _ (
         tt,
         (
           (f .constant, omega arith),
@@ -69,16 +71,16 @@ module _ (r : List ℕ) (q : Instruction) (w : Wide r) (f : Fit q) where
       )
       (jump-sound (comparison m (bOf r (q .i)) (bOf r (q .j))))
 
-  unpack-sound : (i j x : ℕ) → i < 8 → j < 8 → x < 2 ^ 60 → Sound (unpackTo i j x)
+  unpack-sound : (i j x : ℕ) → i < 8 → j < 8 → x < 2 ^ 60 → CentralSound (unpackTo i j x)
   unfolding unpackTo
   unpack-sound i j x hi hj h = ((hi, coefficient-lt x), (hj, exponent-lt x h))
 
-  shift-sound : (m : ℕ) → Sound (shiftOf r q m)
+  shift-sound : (m : ℕ) → CentralSound (shiftOf r q m)
   unfolding shiftOf
   shift-sound m =
       let xi = x-lt (q .i) in
       let xk = x-lt (q .k) in
-      of-getD Sound (shifts r q) m leftOut (
+      of-getD CentralSound (shifts r q) m leftOut (
         (f .i, rotate-lt 60 _ _ (lit< tt) xi),
         (
           (f .i, signed-lt 60 _ _ xi),
@@ -90,24 +92,24 @@ module _ (r : List ℕ) (q : Instruction) (w : Wide r) (f : Fit q) where
       )
       tt
 
-  sum-sound : (m : ℕ) → Sound (sumOf r q m)
+  sum-sound : (m : ℕ) → CentralSound (sumOf r q m)
   unfolding sumOf
   sum-sound m =
-      of-cond Sound (eqb m 6) (λ e. (f .i, sum-lt 60 _ _ (x-lt (q .j)) (x-lt (q .k))))
-      (λ e. of-cond Sound (eqb m 7) (λ e. (f .i, difference-lt 60 _ _ (x-lt (q .j)))) (λ e. tt))
+      of-cond CentralSound (eqb m 6) (λ e. (f .i, sum-lt 60 _ _ (x-lt (q .j)) (x-lt (q .k))))
+      (λ e. of-cond CentralSound (eqb m 7) (λ e. (f .i, difference-lt 60 _ _ (x-lt (q .j)))) (λ e. tt))
 
-  mask-or-count-sound : (m : ℕ) → Sound (maskOrCountOf r q m)
+  mask-or-count-sound : (m : ℕ) → CentralSound (maskOrCountOf r q m)
   unfolding maskOrCountOf
   mask-or-count-sound m =
-      of-cond Sound (eqb m 3) (λ e. (f .i, mask-lt 60 _))
-      (λ e. of-cond Sound (eqb m 6) (λ e. tt)
-      (λ e. of-cond Sound (eqb m 7) (λ e. (f .i, omega (arith, count-le 60 _ (x-lt (q .k))))) (λ e. tt)))
+      of-cond CentralSound (eqb m 3) (λ e. (f .i, mask-lt 60 _))
+      (λ e. of-cond CentralSound (eqb m 6) (λ e. tt)
+      (λ e. of-cond CentralSound (eqb m 7) (λ e. (f .i, omega (arith, count-le 60 _ (x-lt (q .k))))) (λ e. tt)))
 
-  pub effect-sound : (p : ℕ) → p < 131072 → Sound (effectOf r q p)
+  pub effect-sound : (p : ℕ) → p < 131072 → CentralSound (effectOf r q p)
   unfolding effectOf
   effect-sound p h =
       let m = q .code % 8 in
-      of-getD Sound (rows r q m p) (q .code / 8) leftOut (
+      of-getD CentralSound (centralRows r q m p) (q .code / 8) leftOut (
         branch-sound m p h,
         (
           (f .i, logical-lt m _ _ (x-lt (q .j)) (x-lt (q .k))),
@@ -129,11 +131,11 @@ module _ (r : List ℕ) (q : Instruction) (w : Wide r) (f : Fit q) where
       tt
 
 -- the effect of a code by its number, which picks the row and the entry
-effect-by-code : (r : List ℕ) (q : Instruction) (p c : ℕ) → q .code ≡ c → effectOf r q p ≡ getD (rows r q (c % 8) p) (c / 8) leftOut
+effect-by-code : (r : List ℕ) (q : Instruction) (p c : ℕ) → q .code ≡ c → effectOf r q p ≡ getD (centralRows r q (c % 8) p) (c / 8) leftOut
 unfolding effectOf
 effect-by-code r q p c e = rw e
 
 pub effect-at-top : (r : List ℕ) (v p c : ℕ) → v / 2 ^ 58 ≡ c
-    → effectOf r (decodedTop v) p ≡ getD (rows r (decodedTop v) (c % 8) p) (c / 8) leftOut
+    → effectOf r (decodedTop v) p ≡ getD (centralRows r (decodedTop v) (c % 8) p) (c / 8) leftOut
 unfolding decodedTop
 effect-at-top r v p c e = effect-by-code r (decodedTop v) p c e

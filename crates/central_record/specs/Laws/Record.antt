@@ -1,4 +1,4 @@
--- What the tests of a record and of a memory say of each value. Assumes nothing.
+-- What the tests of a record and of a memory say of each value.
 use mathlib.Core.Bool.{true, _&&_}
 use mathlib.Core.List.{List}
 use mathlib.Core.Logic.{⊎-elim}
@@ -8,14 +8,14 @@ use native.Mathlib.Omega.{arith}
 use borrow.Author.Tests.{ltb-true, leb-true, eqb-true, lt-ltb, le-ltb, le-leb, eq-eqb}
 use lib.Dec.{ltb, leb, eqb, lit<, leb·suc-suc}
 use lib.ListN.{length, getD, List·getD-eq-default}
-use Rattle.word.specs.Bits.{bits}
-use Rattle.word.specs.Laws.Choice.{le-or-lt}
-use Rattle.instruction.specs.Registers.{aOf, bOf, xOf}
+use Rattle.word_arithmetic.specs.Bits.{bits}
+use Rattle.base_logic.specs.Laws.Choice.{le-or-lt}
+use Rattle.central_registers.specs.Registers.{aOf, bOf, xOf}
 use Rattle.central_record.specs.declared.record.Central.{Central}
-use Rattle.central_record.specs.Indexed.{allBelow}
+use Rattle.base_lists.specs.Indexed.{allBelow}
 use Rattle.central_record.specs.Record.{emFits, registerWidth, registerFits, registersFit, recordFits, FitsPackage, below, wordsFit}
-use Rattle.word.specs.Laws.Tests.{both}
-use Rattle.central_record.specs.Laws.Indexed.{all-at, all-of}
+use Rattle.base_logic.specs.Laws.Tests.{both}
+use Rattle.base_lists.specs.Laws.Indexed.{all-at, all-of}
 
 -- what holds of the places of A, of B and of X holds of each of the 24 places
 pub each-register : (P : ℕ → Type 0)
@@ -48,12 +48,12 @@ module _ (c : Central) (w : FitsPackage c) where
   x-width n h = rw (le-ltb (16 + n) 16 (omega arith)) at (w .register-width (16 + n) (omega arith))
 
 -- what number 5 lets by
-pub record Fits (n : ℕ) (c : Central) : Type 0 where
+pub record RecordFits (n : ℕ) (c : Central) : Type 0 where
   pub fits-package : FitsPackage c
   pub field : c .ra + c .fl ≤ n
   pub stop : c .stop ≤ 5
 
-pub fits : (n : ℕ) (c : Central) → recordFits n c ≡ true → Fits n c
+pub fits : (n : ℕ) (c : Central) → recordFits n c ≡ true → RecordFits n c
 unfolding recordFits registersFit
 fits n c h =
     let h₇ = both _ (registersFit (c .registers)) h in
@@ -78,7 +78,7 @@ fits n c h =
       stop = leb-true (c .stop) 5 (h₄ .1);
     }
 
-pub of-fits : (n : ℕ) (c : Central) → Fits n c → recordFits n c ≡ true
+pub of-fits : (n : ℕ) (c : Central) → RecordFits n c → recordFits n c ≡ true
 unfolding recordFits registersFit
 of-fits n c f =
     let w = f .fits-package in

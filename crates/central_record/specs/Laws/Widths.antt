@@ -1,4 +1,4 @@
--- The width of every word, tested in one pass: the words' logical sum has it exactly where each of them has. Assumes nothing.
+-- The width of every word, tested in one pass: the words' logical sum has it exactly where each of them has.
 use mathlib.Core.Bool.{_&&_}
 use mathlib.Core.List.{List}
 use mathlib.Core.Path.{_≡_, ap, _∙_}
@@ -9,8 +9,8 @@ use borrow.Author.Tests.{lt-ltb}
 use lib.Bits.{bitOr}
 use lib.Dec.{ltb}
 use lib.ListN.{length, getD}
-use Rattle.word.specs.Laws.Logic.{or-width}
-use Rattle.central_record.specs.Indexed.{allBelow}
+use Rattle.word_arithmetic.specs.Laws.Logic.{or-width}
+use Rattle.base_lists.specs.Indexed.{allBelow}
 use Rattle.central_record.specs.Record.{below}
 
 -- the state of the loop: all has k bits exactly where each of the first i words has

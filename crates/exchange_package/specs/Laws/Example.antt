@@ -1,13 +1,13 @@
--- The package of document 01's console example, before and after its stint, and the record that it holds. Assumes nothing.
+-- The package of document 01's console example, before and after its stint, and the record that it holds.
 use mathlib.Core.Bool.{false}
 use mathlib.Core.List.{List, [], _∷_, _++_}
 use mathlib.Core.Path.{_≡_, refl}
 use Prim.Native.Nat.{ℕ}
 use lib.ListN.{replicate}
 use Rattle.central_record.specs.declared.record.Central.{Central}
-use Rattle.central_record.specs.Indexed.{allBelow, tabulate}
+use Rattle.base_lists.specs.Indexed.{allBelow, tabulate}
 use Rattle.central_record.specs.Record.{emFits}
-use Rattle.exchange_package.specs.Package.{packageWord, coded, registerIn, decoded, hasStray}
+use Rattle.exchange_package.specs.Package.{packageWord, coded, registerIn, packageRecord, hasStray}
 
 -- the lines of the input, and zero words after them
 abbrev pub packageBefore : List ℕ
@@ -21,16 +21,16 @@ abbrev pub packageAfter : List ℕ
 packageAfter =
     0o1000000000000 ∷ 0o20000000000000 ∷ 0o4000000000000 ∷ 0 ∷ 0 ∷ 0 ∷ 0o3000000 ∷ replicate 7 0 ++ (5 ∷ 0 ∷ [])
 
-abbrev pub recordAfter : Central
-recordAfter =
+abbrev pub exampleRecord : Central
+exampleRecord =
     record { p = 1; ra = 0o20; fl = 4; em = 0; registers = replicate 6 0 ++ (3 ∷ replicate 15 0 ++ (5 ∷ 0 ∷ [])); stop = 0 }
 
 pub record Example : Type 0 where
-  pub loaded : decoded packageBefore ≡ recordBefore
-  pub stored : coded recordAfter ≡ packageAfter
-  pub loaded-again : decoded packageAfter ≡ recordAfter
+  pub loaded : packageRecord packageBefore ≡ recordBefore
+  pub stored : coded exampleRecord ≡ packageAfter
+  pub loaded-again : packageRecord packageAfter ≡ exampleRecord
   pub no-stray : hasStray packageBefore ≡ false
 
 pub example : Example
-unfolding tabulate allBelow emFits packageWord coded registerIn decoded hasStray
+unfolding tabulate allBelow emFits packageWord coded registerIn packageRecord hasStray
 example = record { loaded = refl; stored = refl; loaded-again = refl; no-stray = refl }

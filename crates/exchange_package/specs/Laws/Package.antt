@@ -1,4 +1,4 @@
--- A record that goes into a package comes back from it, and a package without stray bits comes back from its record. Assumes nothing.
+-- A record that goes into a package comes back from it, and a package without stray bits comes back from its record.
 use mathlib.Core.Bool.{true, false, _&&_}
 use mathlib.Core.List.{List}
 use mathlib.Core.Logic.{⊎-elim}
@@ -11,16 +11,17 @@ use lib.Dec.{eqb, lit<}
 use lib.ListN.{length, getD, List·getD-eq-default}
 use lib.Pow.{shr-mod}
 use lib.Seq.{ext-getD}
-use Rattle.word.specs.Bits.{bits}
-use Rattle.word.specs.Laws.Bits.{bits-lt}
-use Rattle.word.specs.Laws.Choice.{of-getD, le-or-lt}
-use Rattle.instruction.specs.Registers.{aOf, bOf, xOf}
+use Rattle.word_arithmetic.specs.Bits.{bits}
+use Rattle.word_arithmetic.specs.Laws.Bits.{bits-lt}
+use Rattle.base_logic.specs.Laws.Choice.{le-or-lt}
+use Rattle.base_lists.specs.Laws.Each.{of-getD}
+use Rattle.central_registers.specs.Registers.{aOf, bOf, xOf}
 use Rattle.central_record.specs.declared.record.Central.{Central}
-use Rattle.central_record.specs.Indexed.{allBelow, tabulate}
+use Rattle.base_lists.specs.Indexed.{allBelow, tabulate}
 use Rattle.central_record.specs.Record.{emFits, registerWidth, recordFits, FitsPackage}
-use Rattle.exchange_package.specs.Package.{controls, packageWord, coded, registerIn, controlIn, decoded, bitsInUse, wordHasNoStray, hasStray}
-use Rattle.word.specs.Laws.Tests.{both}
-use Rattle.central_record.specs.Laws.Indexed.{all-at, all-of, length-tabulate, getD-tabulate}
+use Rattle.exchange_package.specs.Package.{controls, packageWord, coded, registerIn, controlIn, packageRecord, bitsInUse, wordHasNoStray, hasStray}
+use Rattle.base_logic.specs.Laws.Tests.{both}
+use Rattle.base_lists.specs.Laws.Indexed.{all-at, all-of, length-tabulate, getD-tabulate, tabulate-of}
 use Rattle.central_record.specs.Laws.Record.{each-register, em-width, a-width, b-width, x-width, of-fits}
 
 pub control-width : (c : Central) → FitsPackage c → (n : ℕ) → getD (controls c) n 0 < 2 ^ 18
@@ -30,8 +31,8 @@ control-width c w n =
     (lit< tt)
 
 -- RA and FL of a package have 18 bits, whatever its words
-pub field-width : (w : List ℕ) → (decoded w .ra < 2 ^ 18) × (decoded w .fl < 2 ^ 18)
-unfolding decoded
+pub field-width : (w : List ℕ) → (packageRecord w .ra < 2 ^ 18) × (packageRecord w .fl < 2 ^ 18)
+unfolding packageRecord
 field-width w = (bits-lt (getD w 1 0) 36 18, bits-lt (getD w 2 0) 36 18)
 
 -- three fields of 18 bits in a word
@@ -56,7 +57,7 @@ module _ (c : Central) where
 
   pub word-coded : (n : ℕ) → n < 16 → getD (coded c) n 0 ≡ packageWord c n
   unfolding coded
-  word-coded n h = getD-tabulate (packageWord c) 16 n h
+  word-coded n h = getD-tabulate (packageWord c) 0 16 n h
 
   pub lower-word : (n : ℕ) → n < 8 → getD (coded c) n 0 ≡ getD (controls c) n 0 * 2 ^ 36 + aOf (c .registers) n * 2 ^ 18 + bOf (c .registers) n
   unfolding packageWord
@@ -96,10 +97,7 @@ module _ (c : Central) (w : FitsPackage c) where
   register-back = each-register (λ i. registerIn (coded c) i ≡ getD (c .registers) i 0) a-back b-back x-back
 
   registers-back : length (c .registers) ≡ 24 → tabulate 24 (registerIn (coded c)) ≡ c .registers
-  registers-back l =
-      let t = length-tabulate (registerIn (coded c)) 24 in
-      ext-getD 0 (tabulate 24 (registerIn (coded c))) (c .registers) (t ∙ sym l)
-      (λ i h. getD-tabulate (registerIn (coded c)) 24 i (omega arith) ∙ register-back i (omega arith))
+  registers-back l = tabulate-of (registerIn (coded c)) 0 24 (c .registers) l register-back
 
 -- the record with the processor running
 abbrev pub running : Central → Central
@@ -110,10 +108,10 @@ record-path : (c d : Central)
 record-path c d p ra fl em registers = λ i. record { p = p i; ra = ra i; fl = fl i; em = em i; registers = registers i; stop = 0 }
 
 -- a record that goes into a package comes back, with the processor running
-pub decoded-coded : (c : Central) → FitsPackage c → length (c .registers) ≡ 24 → decoded (coded c) ≡ running c
-unfolding decoded
-decoded-coded c w l =
-    record-path (decoded (coded c)) c
+pub record-of-coded : (c : Central) → FitsPackage c → length (c .registers) ≡ 24 → packageRecord (coded c) ≡ running c
+unfolding packageRecord
+record-of-coded c w l =
+    record-path (packageRecord (coded c)) c
     (control-back c w 0 (lit< tt))
     (control-back c w 1 (lit< tt))
     (control-back c w 2 (lit< tt))
@@ -148,34 +146,34 @@ of-no-stray w k =
 
 -- the registers of a package's record
 module _ (w : List ℕ) where
-  pub count-decoded : length (decoded w .registers) ≡ 24
-  unfolding decoded
-  count-decoded = length-tabulate (registerIn w) 24
+  pub count-of-package : length (packageRecord w .registers) ≡ 24
+  unfolding packageRecord
+  count-of-package = length-tabulate (registerIn w) 24
 
-  pub stop-decoded : decoded w .stop ≡ 0
-  unfolding decoded
-  stop-decoded = refl
+  pub stop-of-package : packageRecord w .stop ≡ 0
+  unfolding packageRecord
+  stop-of-package = refl
 
-  pub register-decoded : (i : ℕ) → i < 24 → getD (decoded w .registers) i 0 ≡ registerIn w i
-  unfolding decoded
-  register-decoded i h = getD-tabulate (registerIn w) 24 i h
+  pub register-of-package : (i : ℕ) → i < 24 → getD (packageRecord w .registers) i 0 ≡ registerIn w i
+  unfolding packageRecord
+  register-of-package i h = getD-tabulate (registerIn w) 0 24 i h
 
   module _ (n : ℕ) (h : n < 8) where
-    pub a-decoded : aOf (decoded w .registers) n ≡ bits (getD w n 0) 18 18
+    pub a-of-package : aOf (packageRecord w .registers) n ≡ bits (getD w n 0) 18 18
     unfolding registerIn
-    a-decoded = register-decoded n (omega arith) ∙ rw (lt-ltb n 8 h)
+    a-of-package = register-of-package n (omega arith) ∙ rw (lt-ltb n 8 h)
 
-    pub b-decoded : bOf (decoded w .registers) n ≡ bits (getD w n 0) 0 18
+    pub b-of-package : bOf (packageRecord w .registers) n ≡ bits (getD w n 0) 0 18
     unfolding registerIn
-    b-decoded =
-        register-decoded (8 + n) (omega arith)
+    b-of-package =
+        register-of-package (8 + n) (omega arith)
         ∙ rw (le-ltb (8 + n) 8 (omega arith), lt-ltb (8 + n) 16 (omega arith), add-sub-cancel-left)
 
-    pub x-decoded : xOf (decoded w .registers) n ≡ getD w (8 + n) 0
+    pub x-of-package : xOf (packageRecord w .registers) n ≡ getD w (8 + n) 0
     unfolding registerIn
-    x-decoded =
+    x-of-package =
         let e : 16 + n - 8 ≡ 8 + n = omega arith in
-        register-decoded (16 + n) (omega arith) ∙ rw (le-ltb (16 + n) 8 (omega arith), le-ltb (16 + n) 16 (omega arith), e)
+        register-of-package (16 + n) (omega arith) ∙ rw (le-ltb (16 + n) 8 (omega arith), le-ltb (16 + n) 16 (omega arith), e)
 
 -- a package without stray bits comes back from its record
 module _ (w : List ℕ) (k : NoStray w) where
@@ -185,50 +183,50 @@ module _ (w : List ℕ) (k : NoStray w) where
   above-zero : (n : ℕ) → 4 ≤ n → n < 8 → getD w n 0 / 2 ^ 36 ≡ 0
   above-zero n l h = let b = rw (le-ltb n 4 l) at (k .word-width n h) in omega arith
 
-  control-decoded : (n : ℕ) → n < 8 → getD (controls (decoded w)) n 0 ≡ getD w n 0 / 2 ^ 36
-  unfolding decoded
-  control-decoded zero h = shr-mod 18 36 (word-lt 0 (lit< tt))
-  control-decoded (suc zero) h = shr-mod 18 36 (word-lt 1 (lit< tt))
-  control-decoded (suc (suc zero)) h = shr-mod 18 36 (word-lt 2 (lit< tt))
-  control-decoded (suc (suc (suc zero))) h = shr-mod 18 36 (word-lt 3 (lit< tt))
-  control-decoded (suc (suc (suc (suc n)))) h = sym (above-zero (suc (suc (suc (suc n)))) (omega arith) h)
+  control-of-package : (n : ℕ) → n < 8 → getD (controls (packageRecord w)) n 0 ≡ getD w n 0 / 2 ^ 36
+  unfolding packageRecord
+  control-of-package zero h = shr-mod 18 36 (word-lt 0 (lit< tt))
+  control-of-package (suc zero) h = shr-mod 18 36 (word-lt 1 (lit< tt))
+  control-of-package (suc (suc zero)) h = shr-mod 18 36 (word-lt 2 (lit< tt))
+  control-of-package (suc (suc (suc zero))) h = shr-mod 18 36 (word-lt 3 (lit< tt))
+  control-of-package (suc (suc (suc (suc n)))) h = sym (above-zero (suc (suc (suc (suc n)))) (omega arith) h)
 
-  word-back : (n : ℕ) → n < 16 → getD (coded (decoded w)) n 0 ≡ getD w n 0
+  word-back : (n : ℕ) → n < 16 → getD (coded (packageRecord w)) n 0 ≡ getD w n 0
   word-back n h =
       ⊎-elim
-      (λ g. let e : n ≡ 8 + (n - 8) = omega arith in rw e (upper-word (decoded w) (n - 8) (omega arith) ∙ x-decoded w (n - 8) (omega arith)))
-      (λ g. rw (lower-word (decoded w) n g, control-decoded n g, a-decoded w n g, b-decoded w n g) (from-fields (getD w n 0)))
+      (λ g. let e : n ≡ 8 + (n - 8) = omega arith in rw e (upper-word (packageRecord w) (n - 8) (omega arith) ∙ x-of-package w (n - 8) (omega arith)))
+      (λ g. rw (lower-word (packageRecord w) n g, control-of-package n g, a-of-package w n g, b-of-package w n g) (from-fields (getD w n 0)))
       (le-or-lt 8 n)
 
-pub coded-decoded : (w : List ℕ) → length w ≡ 16 → hasStray w ≡ false → coded (decoded w) ≡ w
-coded-decoded w l h =
-    let long = length-coded (decoded w) in
-    ext-getD 0 (coded (decoded w)) w (long ∙ sym l) (λ n b. word-back w (no-stray w h) n (omega arith))
+pub coded-of-record : (w : List ℕ) → length w ≡ 16 → hasStray w ≡ false → coded (packageRecord w) ≡ w
+coded-of-record w l h =
+    let long = length-coded (packageRecord w) in
+    ext-getD 0 (coded (packageRecord w)) w (long ∙ sym l) (λ n b. word-back w (no-stray w h) n (omega arith))
 
 -- the record of a package without stray bits has its widths
 module _ (w : List ℕ) (k : NoStray w) (words : (i : ℕ) → getD w i 0 < 2 ^ 60) where
-  register-lt : (i : ℕ) → i < 24 → getD (decoded w .registers) i 0 < 2 ^ registerWidth i
+  register-lt : (i : ℕ) → i < 24 → getD (packageRecord w .registers) i 0 < 2 ^ registerWidth i
   register-lt =
-      each-register (λ i. getD (decoded w .registers) i 0 < 2 ^ registerWidth i)
-      (λ n h. rw (lt-ltb n 16 (omega arith), a-decoded w n h) (bits-lt (getD w n 0) 18 18))
-      (λ n h. rw (lt-ltb (8 + n) 16 (omega arith), b-decoded w n h) (bits-lt (getD w n 0) 0 18))
-      (λ n h. rw (le-ltb (16 + n) 16 (omega arith), x-decoded w n h) (words (8 + n)))
+      each-register (λ i. getD (packageRecord w .registers) i 0 < 2 ^ registerWidth i)
+      (λ n h. rw (lt-ltb n 16 (omega arith), a-of-package w n h) (bits-lt (getD w n 0) 18 18))
+      (λ n h. rw (lt-ltb (8 + n) 16 (omega arith), b-of-package w n h) (bits-lt (getD w n 0) 0 18))
+      (λ n h. rw (le-ltb (16 + n) 16 (omega arith), x-of-package w n h) (words (8 + n)))
 
-  pub decoded-fits-package : FitsPackage (decoded w)
-  unfolding decoded
-  decoded-fits-package =
+  pub record-fits-package : FitsPackage (packageRecord w)
+  unfolding packageRecord
+  record-fits-package =
       record {
         p-width = bits-lt (getD w 0 0) 36 18;
         ra-width = bits-lt (getD w 1 0) 36 18;
         fl-width = bits-lt (getD w 2 0) 36 18;
         em-fits = k .em-fits;
         register-width = register-lt;
-        b0-zero = b-decoded w 0 (lit< tt) ∙ k .b0-zero;
+        b0-zero = b-of-package w 0 (lit< tt) ∙ k .b0-zero;
       }
 
   -- and passes number 5 where its field ends in memory
-  pub decoded-fits : (n : ℕ) → decoded w .ra + decoded w .fl ≤ n → recordFits n (decoded w) ≡ true
-  decoded-fits n h = of-fits n (decoded w) (record { fits-package = decoded-fits-package; field = h; stop = omega (arith, stop-decoded w) })
+  pub package-record-fits : (n : ℕ) → packageRecord w .ra + packageRecord w .fl ≤ n → recordFits n (packageRecord w) ≡ true
+  package-record-fits n h = of-fits n (packageRecord w) (record { fits-package = record-fits-package; field = h; stop = omega (arith, stop-of-package w) })
 
 -- the package of a record that fits has no stray bits, and words of 60 bits
 module _ (c : Central) (w : FitsPackage c) where
@@ -244,7 +242,7 @@ module _ (c : Central) (w : FitsPackage c) where
       of-no-stray (coded c)
       (record {
         word-width = lower-lt;
-        b0-zero = sym (b-decoded (coded c) 0 (lit< tt)) ∙ register-decoded (coded c) 8 (lit< tt) ∙ b-back c w 0 (lit< tt) ∙ w .b0-zero;
+        b0-zero = sym (b-of-package (coded c) 0 (lit< tt)) ∙ register-of-package (coded c) 8 (lit< tt) ∙ b-back c w 0 (lit< tt) ∙ w .b0-zero;
         em-fits = rw (control-back c w 3 (lit< tt)) (w .em-fits);
       })
 

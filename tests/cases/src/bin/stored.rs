@@ -1,4 +1,4 @@
-//! Makes the stored cases on libhost.a and compares each answer with the stored one.
+//! Makes the stored cases on libhost_calls.a and compares each answer with the stored one.
 
 use cases::coverage::{Coverage, Seen};
 use cases::{answer, archive, generate, stored};
@@ -8,7 +8,7 @@ use std::process::ExitCode;
 /// Differences that are printed.
 const PRINTED: u64 = 5;
 
-/// The answer of libhost.a to the case of a stored line.
+/// The answer of libhost_calls.a to the case of a stored line.
 fn answer_to(line: &str, coverage: &mut Coverage) -> Option<String> {
     let index = line.split(' ').next()?.parse().ok()?;
     let case = generate(stored::SEED, index);

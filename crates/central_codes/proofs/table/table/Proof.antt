@@ -1,4 +1,4 @@
--- `central_codes::table::table` meets its contract. Assumes nothing.
+-- `central_codes::table::table` meets its contract.
 use mathlib.Core.Path.{refl}
 use Rattle.central_codes.specs.Codes.{isLong, isLeftOut, isFit, parcelsOf}
 use Rattle.central_codes.specs.Table.{entryOf, followsFrom}

@@ -1,18 +1,9 @@
--- `central_effect::arithmetic::mask_or_count_of` meets its contract. Assumes nothing.
+-- `central_effect::arithmetic::mask_or_count_of` meets its contract.
 use borrow.Author.Tests.{ne-eqb}
 use borrow.Author.Needs.{needs}
 use Rattle.central_effect.proofs.arithmetic.mask_or_count_of.Tie as tie
 use Rattle.central_effect.specs.Effects.{maskOrCountOf}
 use Rattle.central_effect.proofs.arithmetic.mask_or_count_of.Statement.{statement}
-
-mask60-requires : tie.Need-mask60-requires
-mask60-requires c κs = search needs
-
-x-of-requires : tie.Need-x-of-requires
-x-of-requires c κs = search needs
-
-count-ones60-requires : tie.Need-count-ones60-requires
-count-ones60-requires c κs = search needs
 
 returns : tie.Need-returns
 unfolding maskOrCountOf
@@ -33,11 +24,4 @@ returns-4 c = simp (ne-eqb _ _ (c .match .rest .0 .0 .1), ne-eqb _ _ (c .match .
 pub mask-or-count-of-spec : {M : Type 1} → statement M
 mask-or-count-of-spec =
     tie.close
-    (tie.spec
-    mask60-requires
-    x-of-requires
-    count-ones60-requires
-    returns
-    returns-2
-    returns-3
-    returns-4)
+    (tie.spec (λ c κs. search needs) (λ c κs. search needs) (λ c κs. search needs) returns returns-2 returns-3 returns-4)

@@ -1,27 +1,9 @@
--- `central_effect::arithmetic::sum_of` meets its contract. Assumes nothing.
+-- `central_effect::arithmetic::sum_of` meets its contract.
 use borrow.Author.Tests.{ne-eqb}
 use borrow.Author.Needs.{needs}
 use Rattle.central_effect.proofs.arithmetic.sum_of.Tie as tie
 use Rattle.central_effect.specs.Effects.{sumOf}
 use Rattle.central_effect.proofs.arithmetic.sum_of.Statement.{statement}
-
-x-of-requires : tie.Need-x-of-requires
-x-of-requires c κs = search needs
-
-x-of-requires-2 : tie.Need-x-of-requires-2
-x-of-requires-2 c κs = search needs
-
-sum60-requires : tie.Need-sum60-requires
-sum60-requires c κs = search needs
-
-x-of-requires-3 : tie.Need-x-of-requires-3
-x-of-requires-3 c κs = search needs
-
-x-of-requires-4 : tie.Need-x-of-requires-4
-x-of-requires-4 c κs = search needs
-
-difference60-requires : tie.Need-difference60-requires
-difference60-requires c κs = search needs
 
 returns : tie.Need-returns
 unfolding sumOf
@@ -42,13 +24,5 @@ returns-3 c = simp (ne-eqb _ _ (c .match .rest .0 .1), ne-eqb _ _ (c .match .res
 pub sum-of-spec : {M : Type 1} → statement M
 sum-of-spec =
     tie.close
-    (tie.spec
-    x-of-requires
-    x-of-requires-2
-    sum60-requires
-    x-of-requires-3
-    x-of-requires-4
-    difference60-requires
-    returns
-    returns-2
-    returns-3)
+    (tie.spec (λ c κs. search needs) (λ c κs. search needs) (λ c κs. search needs) (λ c κs. search needs)
+    (λ c κs. search needs) (λ c κs. search needs) returns returns-2 returns-3)

@@ -1,40 +1,10 @@
--- `central_effect::branches::effect_of` meets its contract. Assumes nothing.
+-- `central_effect::branches::effect_of` meets its contract.
 use borrow.Author.Needs.{needs}
 use lib.ListN.{List·getD-eq-default}
-use Rattle.word.proofs.Match.{none-le}
+use Rattle.base_logic.specs.Laws.Match.{none-le}
 use Rattle.central_effect.proofs.branches.effect_of.Tie as tie
 use Rattle.central_effect.specs.Effects.{firstBranches, branchOf}
 use Rattle.central_effect.proofs.branches.effect_of.Statement.{statement}
-
-return-word-requires : tie.Need-return-word-requires
-return-word-requires c κs = search needs
-
-b-of-requires : tie.Need-b-of-requires
-b-of-requires c κs = search needs
-
-sum18-requires : tie.Need-sum18-requires
-sum18-requires c κs = search needs
-
-x-of-requires : tie.Need-x-of-requires
-x-of-requires c κs = search needs
-
-word-condition-requires : tie.Need-word-condition-requires
-word-condition-requires c κs = search needs
-
-jump-if-requires : tie.Need-jump-if-requires
-jump-if-requires c κs = search needs
-
-b-of-requires-2 : tie.Need-b-of-requires-2
-b-of-requires-2 c κs = search needs
-
-b-of-requires-3 : tie.Need-b-of-requires-3
-b-of-requires-3 c κs = search needs
-
-comparison-requires : tie.Need-comparison-requires
-comparison-requires c κs = search needs
-
-jump-if-requires-2 : tie.Need-jump-if-requires-2
-jump-if-requires-2 c κs = search needs
 
 returns : tie.Need-returns
 unfolding branchOf
@@ -68,19 +38,6 @@ returns-5 c =
 pub effect-of-spec : {M : Type 1} → statement M
 effect-of-spec =
     tie.close
-    (tie.spec
-    return-word-requires
-    b-of-requires
-    sum18-requires
-    x-of-requires
-    word-condition-requires
-    jump-if-requires
-    b-of-requires-2
-    b-of-requires-3
-    comparison-requires
-    jump-if-requires-2
-    returns
-    returns-2
-    returns-3
-    returns-4
-    returns-5)
+    (tie.spec (λ c κs. search needs) (λ c κs. search needs) (λ c κs. search needs) (λ c κs. search needs)
+    (λ c κs. search needs) (λ c κs. search needs) (λ c κs. search needs) (λ c κs. search needs) (λ c κs. search needs)
+    (λ c κs. search needs) returns returns-2 returns-3 returns-4 returns-5)

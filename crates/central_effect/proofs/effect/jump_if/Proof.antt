@@ -1,4 +1,4 @@
--- `central_effect::effect::jump_if` meets its contract. Assumes nothing.
+-- `central_effect::effect::jump_if` meets its contract.
 use borrow.Author.Needs.{needs}
 use Rattle.central_effect.proofs.effect.jump_if.Tie as tie
 use Rattle.central_effect.proofs.effect.jump_if.Statement.{statement}
@@ -6,8 +6,5 @@ use Rattle.central_effect.proofs.effect.jump_if.Statement.{statement}
 returns : tie.Need-returns
 returns c = rw (c .if1 .taken)
 
-returns-2 : tie.Need-returns-2
-returns-2 c = search needs
-
 pub jump-if-spec : {M : Type 1} → statement M
-jump-if-spec = tie.close (tie.spec returns returns-2)
+jump-if-spec = tie.close (tie.spec returns (λ c. search needs))

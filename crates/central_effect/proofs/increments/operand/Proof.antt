@@ -1,78 +1,9 @@
--- `central_effect::increments::operand` meets its contract. Assumes nothing.
+-- `central_effect::increments::operand` meets its contract.
 use borrow.Author.Needs.{needs}
-use Rattle.word.proofs.Match.{last-arm}
+use Rattle.base_logic.specs.Laws.Match.{last-arm}
 use Rattle.central_effect.proofs.increments.operand.Tie as tie
 use Rattle.central_effect.specs.Effects.{operandOf}
 use Rattle.central_effect.proofs.increments.operand.Statement.{statement}
-
-a-of-requires : tie.Need-a-of-requires
-a-of-requires c κs = search needs
-
-sum18-requires : tie.Need-sum18-requires
-sum18-requires c κs = search needs
-
-b-of-requires : tie.Need-b-of-requires
-b-of-requires c κs = search needs
-
-sum18-requires-2 : tie.Need-sum18-requires-2
-sum18-requires-2 c κs = search needs
-
-x-of-requires : tie.Need-x-of-requires
-x-of-requires c κs = search needs
-
-low18-requires : tie.Need-low18-requires
-low18-requires c κs = search needs
-
-sum18-requires-3 : tie.Need-sum18-requires-3
-sum18-requires-3 c κs = search needs
-
-x-of-requires-2 : tie.Need-x-of-requires-2
-x-of-requires-2 c κs = search needs
-
-low18-requires-2 : tie.Need-low18-requires-2
-low18-requires-2 c κs = search needs
-
-b-of-requires-2 : tie.Need-b-of-requires-2
-b-of-requires-2 c κs = search needs
-
-sum18-requires-4 : tie.Need-sum18-requires-4
-sum18-requires-4 c κs = search needs
-
-a-of-requires-2 : tie.Need-a-of-requires-2
-a-of-requires-2 c κs = search needs
-
-b-of-requires-3 : tie.Need-b-of-requires-3
-b-of-requires-3 c κs = search needs
-
-sum18-requires-5 : tie.Need-sum18-requires-5
-sum18-requires-5 c κs = search needs
-
-a-of-requires-3 : tie.Need-a-of-requires-3
-a-of-requires-3 c κs = search needs
-
-b-of-requires-4 : tie.Need-b-of-requires-4
-b-of-requires-4 c κs = search needs
-
-difference18-requires : tie.Need-difference18-requires
-difference18-requires c κs = search needs
-
-b-of-requires-5 : tie.Need-b-of-requires-5
-b-of-requires-5 c κs = search needs
-
-b-of-requires-6 : tie.Need-b-of-requires-6
-b-of-requires-6 c κs = search needs
-
-sum18-requires-6 : tie.Need-sum18-requires-6
-sum18-requires-6 c κs = search needs
-
-b-of-requires-7 : tie.Need-b-of-requires-7
-b-of-requires-7 c κs = search needs
-
-b-of-requires-8 : tie.Need-b-of-requires-8
-b-of-requires-8 c κs = search needs
-
-difference18-requires-2 : tie.Need-difference18-requires-2
-difference18-requires-2 c κs = search needs
 
 returns : tie.Need-returns
 unfolding operandOf
@@ -122,35 +53,9 @@ returns-8 c =
 pub operand-spec : {M : Type 1} → statement M
 operand-spec =
     tie.close
-    (tie.spec
-    a-of-requires
-    sum18-requires
-    b-of-requires
-    sum18-requires-2
-    x-of-requires
-    low18-requires
-    sum18-requires-3
-    x-of-requires-2
-    low18-requires-2
-    b-of-requires-2
-    sum18-requires-4
-    a-of-requires-2
-    b-of-requires-3
-    sum18-requires-5
-    a-of-requires-3
-    b-of-requires-4
-    difference18-requires
-    b-of-requires-5
-    b-of-requires-6
-    sum18-requires-6
-    b-of-requires-7
-    b-of-requires-8
-    difference18-requires-2
-    returns
-    returns-2
-    returns-3
-    returns-4
-    returns-5
-    returns-6
-    returns-7
-    returns-8)
+    (tie.spec (λ c κs. search needs) (λ c κs. search needs) (λ c κs. search needs) (λ c κs. search needs)
+    (λ c κs. search needs) (λ c κs. search needs) (λ c κs. search needs) (λ c κs. search needs) (λ c κs. search needs)
+    (λ c κs. search needs) (λ c κs. search needs) (λ c κs. search needs) (λ c κs. search needs) (λ c κs. search needs)
+    (λ c κs. search needs) (λ c κs. search needs) (λ c κs. search needs) (λ c κs. search needs) (λ c κs. search needs)
+    (λ c κs. search needs) (λ c κs. search needs) (λ c κs. search needs) (λ c κs. search needs) returns returns-2
+    returns-3 returns-4 returns-5 returns-6 returns-7 returns-8)

@@ -1,8 +1,8 @@
--- `central_effect::listing::effect_of` meets its contract: what the arms ask for, then what each of the 64 gives. Assumes nothing.
+-- `central_effect::listing::effect_of` meets its contract: what the arms ask for, then what each of the 64 gives.
 use mathlib.Core.Path.{_∙_, sym}
 use native.Mathlib.Omega.{arith}
 use borrow.Author.Needs.{needs}
-use Rattle.word.proofs.Match.{last-arm}
+use Rattle.base_logic.specs.Laws.Match.{last-arm}
 use Rattle.central_effect.specs.Laws.Effects.{effect-at-top}
 use Rattle.central_effect.proofs.listing.effect_of.Statement.{statement}
 use Rattle.central_effect.proofs.listing.effect_of.Tie as tie

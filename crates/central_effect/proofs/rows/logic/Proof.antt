@@ -1,19 +1,7 @@
--- `central_effect::rows::logic` meets its contract. Assumes nothing.
+-- `central_effect::rows::logic` meets its contract.
 use borrow.Author.Needs.{needs}
 use Rattle.central_effect.proofs.rows.logic.Statement.{statement}
 use Rattle.central_effect.proofs.rows.logic.Tie as tie
-
-decode-requires : tie.Need-decode-requires
-decode-requires c κs = search needs
-
-x-of-requires : tie.Need-x-of-requires
-x-of-requires c κs = search needs
-
-x-of-requires-2 : tie.Need-x-of-requires-2
-x-of-requires-2 c κs = search needs
-
-logical-requires : tie.Need-logical-requires
-logical-requires c κs = search needs
 
 returns : tie.Need-returns
 returns c =
@@ -25,4 +13,5 @@ returns c =
 
 pub logic-spec : {M : Type 1} → statement M
 logic-spec =
-    tie.close (tie.spec decode-requires x-of-requires x-of-requires-2 logical-requires returns)
+    tie.close
+    (tie.spec (λ c κs. search needs) (λ c κs. search needs) (λ c κs. search needs) (λ c κs. search needs) returns)

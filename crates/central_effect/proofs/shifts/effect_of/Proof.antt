@@ -1,54 +1,9 @@
--- `central_effect::shifts::effect_of` meets its contract. Assumes nothing.
+-- `central_effect::shifts::effect_of` meets its contract.
 use borrow.Author.Needs.{needs}
-use Rattle.word.proofs.Match.{last-arm}
+use Rattle.base_logic.specs.Laws.Match.{last-arm}
 use Rattle.central_effect.proofs.shifts.effect_of.Tie as tie
 use Rattle.central_effect.specs.Effects.{shiftOf}
 use Rattle.central_effect.proofs.shifts.effect_of.Statement.{statement}
-
-x-of-requires : tie.Need-x-of-requires
-x-of-requires c κs = search needs
-
-rotate-left60-requires : tie.Need-rotate-left60-requires
-rotate-left60-requires c κs = search needs
-
-x-of-requires-2 : tie.Need-x-of-requires-2
-x-of-requires-2 c κs = search needs
-
-shift-right60-requires : tie.Need-shift-right60-requires
-shift-right60-requires c κs = search needs
-
-b-of-requires : tie.Need-b-of-requires
-b-of-requires c κs = search needs
-
-x-of-requires-3 : tie.Need-x-of-requires-3
-x-of-requires-3 c κs = search needs
-
-nominal-left-requires : tie.Need-nominal-left-requires
-nominal-left-requires c κs = search needs
-
-b-of-requires-2 : tie.Need-b-of-requires-2
-b-of-requires-2 c κs = search needs
-
-x-of-requires-4 : tie.Need-x-of-requires-4
-x-of-requires-4 c κs = search needs
-
-nominal-right-requires : tie.Need-nominal-right-requires
-nominal-right-requires c κs = search needs
-
-x-of-requires-5 : tie.Need-x-of-requires-5
-x-of-requires-5 c κs = search needs
-
-unpack-to-requires : tie.Need-unpack-to-requires
-unpack-to-requires c κs = search needs
-
-b-of-requires-3 : tie.Need-b-of-requires-3
-b-of-requires-3 c κs = search needs
-
-x-of-requires-6 : tie.Need-x-of-requires-6
-x-of-requires-6 c κs = search needs
-
-pack-requires : tie.Need-pack-requires
-pack-requires c κs = search needs
 
 returns : tie.Need-returns
 unfolding shiftOf
@@ -97,27 +52,7 @@ returns-8 c =
 pub effect-of-spec : {M : Type 1} → statement M
 effect-of-spec =
     tie.close
-    (tie.spec
-    x-of-requires
-    rotate-left60-requires
-    x-of-requires-2
-    shift-right60-requires
-    b-of-requires
-    x-of-requires-3
-    nominal-left-requires
-    b-of-requires-2
-    x-of-requires-4
-    nominal-right-requires
-    x-of-requires-5
-    unpack-to-requires
-    b-of-requires-3
-    x-of-requires-6
-    pack-requires
-    returns
-    returns-2
-    returns-3
-    returns-4
-    returns-5
-    returns-6
-    returns-7
-    returns-8)
+    (tie.spec (λ c κs. search needs) (λ c κs. search needs) (λ c κs. search needs) (λ c κs. search needs)
+    (λ c κs. search needs) (λ c κs. search needs) (λ c κs. search needs) (λ c κs. search needs) (λ c κs. search needs)
+    (λ c κs. search needs) (λ c κs. search needs) (λ c κs. search needs) (λ c κs. search needs) (λ c κs. search needs)
+    (λ c κs. search needs) returns returns-2 returns-3 returns-4 returns-5 returns-6 returns-7 returns-8)

@@ -1,9 +1,9 @@
--- `central_record::record::em_fits` meets its contract. Assumes nothing.
+-- `central_record::record::em_fits` meets its contract.
 use Prim.Native.Nat.{_/_, _%_, _^_}
 use lib.Bits.{and-mask}
 use lib.Dec.{lit≤}
 use lib.Pow.{shl-exact}
-use Rattle.word.specs.Laws.Bits.{bits-lt}
+use Rattle.word_arithmetic.specs.Laws.Bits.{bits-lt}
 use Rattle.central_record.specs.Record.{emFits}
 use Rattle.central_record.proofs.record.em_fits.Statement.{statement}
 use Rattle.central_record.proofs.record.em_fits.Tie as tie

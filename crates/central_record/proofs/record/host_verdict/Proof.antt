@@ -1,26 +1,17 @@
--- `central_record::record::host_verdict` meets its contract. Assumes nothing.
-use Rattle.word.specs.Laws.Tests.{holds, fails}
+-- `central_record::record::host_verdict` meets its contract.
+use Rattle.base_logic.specs.Laws.Tests.{holds, fails}
 use Rattle.central_record.specs.Record.{hostVerdict}
 use borrow.Author.Needs.{needs}
 use Rattle.central_record.proofs.record.host_verdict.Statement.{statement}
 use Rattle.central_record.proofs.record.host_verdict.Tie as tie
 
-length-fits-requires : tie.Need-length-fits-requires
-length-fits-requires c κs = search needs
-
 returns : tie.Need-returns
 unfolding hostVerdict
 returns c = rw (fails (c .before .length-fits .ensures) (c .if1 .taken))
 
-words-fit-requires : tie.Need-words-fit-requires
-words-fit-requires c κs = search needs
-
 returns-2 : tie.Need-returns-2
 unfolding hostVerdict
 returns-2 c = rw (holds (c .before .before .before .length-fits .ensures) (c .before .before .if1 .left), fails (c .before .words-fit .ensures) (c .if2 .taken))
-
-record-fits-requires : tie.Need-record-fits-requires
-record-fits-requires c κs = search needs
 
 returns-3 : tie.Need-returns-3
 unfolding hostVerdict
@@ -33,11 +24,4 @@ returns-4 c = rw (holds (c .before .before .before .before .before .length-fits 
 pub host-verdict-spec : {M : Type 1} → statement M
 host-verdict-spec =
     tie.close
-    (tie.spec
-    length-fits-requires
-    returns
-    words-fit-requires
-    returns-2
-    record-fits-requires
-    returns-3
-    returns-4)
+    (tie.spec (λ c κs. search needs) returns (λ c κs. search needs) returns-2 (λ c κs. search needs) returns-3 returns-4)

@@ -1,4 +1,4 @@
--- `central_record::record::length_fits` meets its contract. Assumes nothing.
+-- `central_record::record::length_fits` meets its contract.
 use native.Mathlib.Omega.{arith}
 use borrow.Author.Tests.{le-leb, lt-leb}
 use Rattle.central_record.proofs.record.length_fits.Statement.{statement}

@@ -1,4 +1,4 @@
--- `central_record::record::record_fits` meets its contract. Assumes nothing.
+-- `central_record::record::record_fits` meets its contract.
 use mathlib.Core.Path.{sym, _∙_}
 use Prim.Native.Nat.{_+_, _^_}
 use native.Mathlib.Omega.{arith}
@@ -26,9 +26,6 @@ returns-3 c =
     let t = c .before .before .before .args .t1 in
     rw (lt-ltb (t .p) (2 ^ 18) (omega arith), lt-ltb (t .ra) (2 ^ 18) (omega arith), le-ltb (t .fl) (2 ^ 18) (omega arith))
 
-add-if4 : tie.Need-add-if4
-add-if4 c = search needs
-
 returns-4 : tie.Need-returns-4
 unfolding recordFits
 returns-4 c =
@@ -54,9 +51,6 @@ returns-5 c =
       lt-leb (t .stop) 5 (omega arith),
     )
 
-element-copy-out-b0 : tie.Need-element-copy-out-b0
-element-copy-out-b0 c = search needs
-
 returns-6 : tie.Need-returns-6
 unfolding recordFits
 returns-6 c =
@@ -70,12 +64,6 @@ returns-6 c =
       le-leb (t .stop) 5 (omega arith),
       ne-eqb _ _ (c .if6 .taken),
     )
-
-em-fits-requires : tie.Need-em-fits-requires
-em-fits-requires c κs = search needs
-
-registers-fit-requires : tie.Need-registers-fit-requires
-registers-fit-requires c κs = search needs
 
 returns-7 : tie.Need-returns-7
 unfolding recordFits
@@ -111,16 +99,5 @@ returns-8 c =
 pub record-fits-spec : {M : Type 1} → statement M
 record-fits-spec =
     tie.close
-    (tie.spec
-    returns
-    returns-2
-    returns-3
-    add-if4
-    returns-4
-    returns-5
-    element-copy-out-b0
-    returns-6
-    em-fits-requires
-    registers-fit-requires
-    returns-7
-    returns-8)
+    (tie.spec returns returns-2 returns-3 (λ c. search needs) returns-4 returns-5 (λ c. search needs) returns-6
+    (λ c κs. search needs) (λ c κs. search needs) returns-7 returns-8)

@@ -1,4 +1,4 @@
--- `central_record::record::register_limit` meets its contract. Assumes nothing.
+-- `central_record::record::register_limit` meets its contract.
 use borrow.Author.Tests.{lt-ltb, le-ltb}
 use Rattle.central_record.proofs.record.register_limit.Statement.{statement}
 use Rattle.central_record.proofs.record.register_limit.Tie as tie

@@ -1,11 +1,11 @@
--- `central_record::record::registers_fit` meets its contract. Assumes nothing.
+-- `central_record::record::registers_fit` meets its contract.
 use Prim.Native.Nat.{_≤_, _<_, _-_, _^_}
 use native.Mathlib.Omega.{arith}
 use borrow.Author.Needs.{needs}
 use borrow.Author.Tests.{lt-ltb, le-ltb}
 use lib.ListN.{getD}
 use Rattle.central_record.specs.Record.{registerWidth, registerFits, registersFit}
-use Rattle.central_record.specs.Laws.Indexed.{Passed, none-yet, one-more, all-passed, one-fails}
+use Rattle.base_lists.specs.Laws.Indexed.{Passed, none-yet, one-more, all-passed, one-fails}
 use Rattle.central_record.proofs.record.registers_fit.Statement.{statement}
 use Rattle.central_record.proofs.record.registers_fit.Tie as tie
 
@@ -18,15 +18,6 @@ abbrev μ-loop : tie.MeasureT-loop
 loop-holds : tie.Need-loop-holds Inv-loop μ-loop
 loop-holds c = none-yet _ _
 
-register-limit-requires : tie.Need-register-limit-requires Inv-loop μ-loop
-register-limit-requires c κs = search needs
-
-mul-if1 : tie.Need-mul-if1 Inv-loop μ-loop
-mul-if1 c = omega arith
-
-array-read-if1 : tie.Need-array-read-if1 Inv-loop μ-loop
-array-read-if1 c = omega arith
-
 returns : tie.Need-returns Inv-loop μ-loop
 unfolding registersFit
 returns c =
@@ -34,12 +25,6 @@ returns c =
     let i = c .before .before .before .loop .i in
     let wide : 2 ^ registerWidth i ≤ getD r i 0 = rw (c .before .register-limit .ensures) at (c .if1 .taken) in
     one-fails (registerFits r) 24 i (c .before .before .loop-test .taken) (le-ltb (getD r i 0) (2 ^ registerWidth i) wide)
-
-add-i : tie.Need-add-i Inv-loop μ-loop
-add-i c = omega arith
-
-loop-less : tie.Need-loop-less Inv-loop μ-loop
-loop-less c = omega arith
 
 loop-again : tie.Need-loop-again Inv-loop μ-loop
 loop-again c =
@@ -55,15 +40,5 @@ returns-2 c = all-passed _ _ _ (c .before .loop .inv) (c .loop-test .left)
 pub registers-fit-spec : {M : Type 1} → statement M
 registers-fit-spec =
     tie.close
-    (tie.spec
-    Inv-loop
-    μ-loop
-    loop-holds
-    register-limit-requires
-    mul-if1
-    array-read-if1
-    returns
-    add-i
-    loop-less
-    loop-again
-    returns-2)
+    (tie.spec Inv-loop μ-loop loop-holds (λ c κs. search needs) (λ c. omega arith) (λ c. omega arith) returns
+    (λ c. omega arith) (λ c. omega arith) loop-again returns-2)

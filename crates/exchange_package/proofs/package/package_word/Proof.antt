@@ -1,32 +1,14 @@
--- `exchange_package::package::package_word` meets its contract. Assumes nothing.
+-- `exchange_package::package::package_word` meets its contract.
 use borrow.Author.Tests.{lt-ltb, le-ltb}
 use borrow.Author.Needs.{needs}
 use lib.ListN.{getD}
-use Rattle.instruction.specs.Registers.{aOf, bOf}
+use Rattle.central_registers.specs.Registers.{aOf, bOf}
 use Rattle.exchange_package.specs.Package.{controls, packageWord}
 use Rattle.central_record.specs.Laws.Record.{a-width, b-width}
 use Rattle.exchange_package.specs.Laws.Package.{control-width}
 use Rattle.exchange_package.proofs.Machine.{three-fields}
 use Rattle.exchange_package.proofs.package.package_word.Statement.{statement}
 use Rattle.exchange_package.proofs.package.package_word.Tie as tie
-
-control-requires : tie.Need-control-requires
-control-requires c κs = search needs
-
-mul-a : tie.Need-mul-a
-mul-a c = search needs
-
-element-copy-out-a : tie.Need-element-copy-out-a
-element-copy-out-a c = search needs
-
-add-b : tie.Need-add-b
-add-b c = search needs
-
-mul-b : tie.Need-mul-b
-mul-b c = search needs
-
-element-copy-out-b : tie.Need-element-copy-out-b
-element-copy-out-b c = search needs
 
 returns : tie.Need-returns
 unfolding packageWord
@@ -41,15 +23,6 @@ returns c =
     )
     (three-fields (getD (controls r) n 0) (aOf (r .registers) n) (bOf (r .registers) n) (control-width r w n) (a-width r w n h) (b-width r w n h))
 
-add-result : tie.Need-add-result
-add-result c = search needs
-
-mul-result : tie.Need-mul-result
-mul-result c = search needs
-
-element-copy-out-result : tie.Need-element-copy-out-result
-element-copy-out-result c = search needs
-
 returns-2 : tie.Need-returns-2
 unfolding packageWord
 returns-2 c = rw (le-ltb (c .before .before .args .n) 8 (c .before .if1 .left))
@@ -57,15 +30,5 @@ returns-2 c = rw (le-ltb (c .before .before .args .n) 8 (c .before .if1 .left))
 pub package-word-spec : {M : Type 1} → statement M
 package-word-spec =
     tie.close
-    (tie.spec
-    control-requires
-    mul-a
-    element-copy-out-a
-    add-b
-    mul-b
-    element-copy-out-b
-    returns
-    add-result
-    mul-result
-    element-copy-out-result
-    returns-2)
+    (tie.spec (λ c κs. search needs) (λ c. search needs) (λ c. search needs) (λ c. search needs) (λ c. search needs)
+    (λ c. search needs) returns (λ c. search needs) (λ c. search needs) (λ c. search needs) returns-2)

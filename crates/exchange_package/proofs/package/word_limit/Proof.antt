@@ -1,4 +1,4 @@
--- `exchange_package::package::word_limit` meets its contract. Assumes nothing.
+-- `exchange_package::package::word_limit` meets its contract.
 use borrow.Author.Tests.{lt-ltb, le-ltb}
 use Rattle.exchange_package.proofs.package.word_limit.Statement.{statement}
 use Rattle.exchange_package.proofs.package.word_limit.Tie as tie

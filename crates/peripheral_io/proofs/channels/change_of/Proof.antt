@@ -1,46 +1,10 @@
--- `peripheral_io::channels::change_of` meets its contract. Assumes nothing.
+-- `peripheral_io::channels::change_of` meets its contract.
 use mathlib.Core.Path.{_≡_}
 use native.Mathlib.Omega.{arith}
 use borrow.Author.Needs.{needs}
 use Rattle.peripheral_io.proofs.channels.change_of.Tie as tie
 use Rattle.peripheral_io.specs.Channels.{changeOf}
 use Rattle.peripheral_io.proofs.channels.change_of.Statement.{statement}
-
-onward-requires : tie.Need-onward-requires
-onward-requires c κs = search needs
-
-activate-requires : tie.Need-activate-requires
-activate-requires c κs = search needs
-
-changed-requires : tie.Need-changed-requires
-changed-requires c κs = search needs
-
-disconnect-requires : tie.Need-disconnect-requires
-disconnect-requires c κs = search needs
-
-changed-requires-2 : tie.Need-changed-requires-2
-changed-requires-2 c κs = search needs
-
-low12-requires : tie.Need-low12-requires
-low12-requires c κs = search needs
-
-function-requires : tie.Need-function-requires
-function-requires c κs = search needs
-
-changed-requires-3 : tie.Need-changed-requires-3
-changed-requires-3 c κs = search needs
-
-onward-requires-2 : tie.Need-onward-requires-2
-onward-requires-2 c κs = search needs
-
-second-requires : tie.Need-second-requires
-second-requires c κs = search needs
-
-function-requires-2 : tie.Need-function-requires-2
-function-requires-2 c κs = search needs
-
-changed-requires-4 : tie.Need-changed-requires-4
-changed-requires-4 c κs = search needs
 
 returns : tie.Need-returns
 unfolding changeOf
@@ -68,20 +32,6 @@ returns-4 c =
 pub change-of-spec : {M : Type 1} → statement M
 change-of-spec =
     tie.close
-    (tie.spec
-    onward-requires
-    activate-requires
-    changed-requires
-    disconnect-requires
-    changed-requires-2
-    low12-requires
-    function-requires
-    changed-requires-3
-    onward-requires-2
-    second-requires
-    function-requires-2
-    changed-requires-4
-    returns
-    returns-2
-    returns-3
-    returns-4)
+    (tie.spec (λ c κs. search needs) (λ c κs. search needs) (λ c κs. search needs) (λ c κs. search needs)
+    (λ c κs. search needs) (λ c κs. search needs) (λ c κs. search needs) (λ c κs. search needs) (λ c κs. search needs)
+    (λ c κs. search needs) (λ c κs. search needs) (λ c κs. search needs) returns returns-2 returns-3 returns-4)

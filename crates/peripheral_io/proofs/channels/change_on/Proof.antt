@@ -1,15 +1,9 @@
--- `peripheral_io::channels::change_on` meets its contract. Assumes nothing.
+-- `peripheral_io::channels::change_on` meets its contract.
 use borrow.Author.Tests.{lt-ltb, le-ltb}
 use borrow.Author.Needs.{needs}
 use Rattle.peripheral_io.proofs.channels.change_on.Tie as tie
 use Rattle.peripheral_io.specs.Channels.{changeOn}
 use Rattle.peripheral_io.proofs.channels.change_on.Statement.{statement}
-
-channel-of-requires : tie.Need-channel-of-requires
-channel-of-requires c κs = search needs
-
-change-of-requires : tie.Need-change-of-requires
-change-of-requires c κs = search needs
 
 returns : tie.Need-returns
 unfolding changeOn
@@ -20,4 +14,4 @@ unfolding changeOn
 returns-2 c = rw (le-ltb _ 12 (c .if1 .left))
 
 pub change-on-spec : {M : Type 1} → statement M
-change-on-spec = tie.close (tie.spec channel-of-requires change-of-requires returns returns-2)
+change-on-spec = tie.close (tie.spec (λ c κs. search needs) (λ c κs. search needs) returns returns-2)

@@ -1,4 +1,4 @@
--- `peripheral_io::channels::channel_jump` meets its contract. Assumes nothing.
+-- `peripheral_io::channels::channel_jump` meets its contract.
 use borrow.Author.Tests.{lt-ltb, le-ltb}
 use borrow.Author.Needs.{needs}
 use Rattle.peripheral_io.proofs.channels.channel_jump.Tie as tie
@@ -9,15 +9,6 @@ returns : tie.Need-returns
 unfolding channelJump
 returns c = rw (lt-ltb 12 _ (c .if1 .taken))
 
-jump-channel-requires : tie.Need-jump-channel-requires
-jump-channel-requires c κs = search needs
-
-condition-requires : tie.Need-condition-requires
-condition-requires c κs = search needs
-
-second-requires : tie.Need-second-requires
-second-requires c κs = search needs
-
 returns-2 : tie.Need-returns-2
 unfolding channelJump
 returns-2 c =
@@ -25,9 +16,6 @@ returns-2 c =
     let jump-channel = c .before .before .before .jump-channel in
     let condition = c .before .before .condition in
     rw (le-ltb 12 _ (if1 .left), ← jump-channel .ensures, ← condition .ensures, c .before .if2 .taken, c .second .ensures .is)
-
-onward-requires : tie.Need-onward-requires
-onward-requires c κs = search needs
 
 returns-3 : tie.Need-returns-3
 unfolding channelJump
@@ -40,11 +28,5 @@ returns-3 c =
 pub channel-jump-spec : {M : Type 1} → statement M
 channel-jump-spec =
     tie.close
-    (tie.spec
-    returns
-    jump-channel-requires
-    condition-requires
-    second-requires
-    returns-2
-    onward-requires
-    returns-3)
+    (tie.spec returns (λ c κs. search needs) (λ c κs. search needs) (λ c κs. search needs) returns-2
+    (λ c κs. search needs) returns-3)

@@ -1,4 +1,4 @@
--- `peripheral_io::channels::condition` meets its contract. Assumes nothing.
+-- `peripheral_io::channels::condition` meets its contract.
 use mathlib.Core.Path.{_≡_}
 use native.Mathlib.Omega.{arith}
 use Rattle.peripheral_io.proofs.channels.condition.Tie as tie

@@ -1,28 +1,13 @@
--- `peripheral_io::channels::input_from` meets its contract. Assumes nothing.
+-- `peripheral_io::channels::input_from` meets its contract.
 use borrow.Author.Tests.{lt-ltb, le-ltb, eq-eqb, ne-eqb}
 use borrow.Author.Needs.{needs}
 use Rattle.peripheral_io.proofs.channels.input_from.Tie as tie
 use Rattle.peripheral_io.specs.Channels.{inputFrom}
 use Rattle.peripheral_io.proofs.channels.input_from.Statement.{statement}
 
-onward-requires : tie.Need-onward-requires
-onward-requires c κs = search needs
-
-clock-requires : tie.Need-clock-requires
-clock-requires c κs = search needs
-
 returns : tie.Need-returns
 unfolding inputFrom
 returns c = rw (eq-eqb _ 12 (c .before .if1 .taken), c .before .before .onward .ensures, c .clock .ensures)
-
-channel-of-requires : tie.Need-channel-of-requires
-channel-of-requires c κs = search needs
-
-input-requires : tie.Need-input-requires
-input-requires c κs = search needs
-
-changed-requires : tie.Need-changed-requires
-changed-requires c κs = search needs
 
 returns-2 : tie.Need-returns-2
 unfolding inputFrom
@@ -40,12 +25,5 @@ returns-3 c = rw (ne-eqb _ 12 (c .before .if1 .left), le-ltb _ 12 (c .if2 .left)
 pub input-from-spec : {M : Type 1} → statement M
 input-from-spec =
     tie.close
-    (tie.spec
-    onward-requires
-    clock-requires
-    returns
-    channel-of-requires
-    input-requires
-    changed-requires
-    returns-2
-    returns-3)
+    (tie.spec (λ c κs. search needs) (λ c κs. search needs) returns (λ c κs. search needs) (λ c κs. search needs)
+    (λ c κs. search needs) returns-2 returns-3)

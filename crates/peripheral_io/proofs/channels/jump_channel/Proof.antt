@@ -1,4 +1,4 @@
--- `peripheral_io::channels::jump_channel` meets its contract. Assumes nothing.
+-- `peripheral_io::channels::jump_channel` meets its contract.
 use borrow.Author.Tests.{eq-eqb, ne-eqb}
 use borrow.Author.Needs.{needs}
 use Rattle.peripheral_io.proofs.channels.jump_channel.Tie as tie
@@ -9,12 +9,9 @@ returns : tie.Need-returns
 unfolding jumpChannel
 returns c = rw (eq-eqb _ 12 (c .if1 .taken))
 
-channel-of-requires : tie.Need-channel-of-requires
-channel-of-requires c κs = search needs
-
 returns-2 : tie.Need-returns-2
 unfolding jumpChannel
 returns-2 c = rw (ne-eqb _ 12 (c .before .if1 .left)) (c .channel-of .ensures)
 
 pub jump-channel-spec : {M : Type 1} → statement M
-jump-channel-spec = tie.close (tie.spec returns channel-of-requires returns-2)
+jump-channel-spec = tie.close (tie.spec returns (λ c κs. search needs) returns-2)

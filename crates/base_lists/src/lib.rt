@@ -1,0 +1,2 @@
+// What every layer says of lists and of parts of memory.
+pub mod overlap;

@@ -1,0 +1,100 @@
+-- No two refusals have one number, nor do two stops of one processor.
+use mathlib.Core.List.{List, [], _∷_}
+use mathlib.Core.Path.{_≡_, refl, sym, ap, _∙_}
+use Prim.Native.Nat.{ℕ, _-_}
+use lib.ListN.{getD}
+use Rattle.base_outcome.specs.declared.refusal.Refusal.{Refusal}
+use Rattle.base_outcome.specs.declared.refusal.Refusal.the-variants as Refused
+use Rattle.base_outcome.specs.declared.stop.CentralStop.{CentralStop}
+use Rattle.base_outcome.specs.declared.stop.CentralStop.the-variants as Central
+use Rattle.base_outcome.specs.declared.stop.PeripheralStop.{PeripheralStop}
+use Rattle.base_outcome.specs.declared.stop.PeripheralStop.the-variants as Peripheral
+use Rattle.base_outcome.specs.Numbers.{refusalNumber, centralStopNumber, peripheralStopNumber}
+
+-- a number from which the case can be had again is the number of no other case
+distinct : {A : Type 0} (number : A → ℕ) (case : ℕ → A) → ((a : A) → case (number a) ≡ a) → (a b : A) → number a ≡ number b → a ≡ b
+distinct number case again a b e = sym (again a) ∙ ap case e ∙ again b
+
+abbrev refusals : List Refusal
+refusals =
+    Refused.CentralLength
+    ∷ Refused.PeripheralLength
+    ∷ Refused.CentralWord
+    ∷ Refused.PeripheralWord
+    ∷ Refused.RecordValue
+    ∷ Refused.ListLength
+    ∷ Refused.UnlistedJob
+    ∷ Refused.TooManyTurns
+    ∷ Refused.PackagePastEnd
+    ∷ Refused.StrayBits
+    ∷ Refused.FieldPastEnd
+    ∷ Refused.SharedWord
+    ∷ Refused.DeviceWord
+    ∷ Refused.PutUnmet
+    ∷ Refused.TakeUnmet
+    ∷ Refused.UnreadableLine
+    ∷ []
+
+abbrev refusalOf : ℕ → Refusal
+refusalOf n = getD refusals (n - 1) Refused.UnreadableLine
+
+refusal-again : (r : Refusal) → refusalOf (refusalNumber r) ≡ r
+refusal-again Refused.CentralLength = refl
+refusal-again Refused.PeripheralLength = refl
+refusal-again Refused.CentralWord = refl
+refusal-again Refused.PeripheralWord = refl
+refusal-again Refused.RecordValue = refl
+refusal-again Refused.ListLength = refl
+refusal-again Refused.UnlistedJob = refl
+refusal-again Refused.TooManyTurns = refl
+refusal-again Refused.PackagePastEnd = refl
+refusal-again Refused.StrayBits = refl
+refusal-again Refused.FieldPastEnd = refl
+refusal-again Refused.SharedWord = refl
+refusal-again Refused.DeviceWord = refl
+refusal-again Refused.PutUnmet = refl
+refusal-again Refused.TakeUnmet = refl
+refusal-again Refused.UnreadableLine = refl
+
+pub refusals-distinct : (r s : Refusal) → refusalNumber r ≡ refusalNumber s → r ≡ s
+refusals-distinct = distinct refusalNumber refusalOf refusal-again
+
+abbrev centralStops : List CentralStop
+centralStops = Central.Halt ∷ Central.OperandOutside ∷ Central.FetchOutside ∷ Central.UnfitCode ∷ Central.LastParcel ∷ []
+
+abbrev centralStopOf : ℕ → CentralStop
+centralStopOf n = getD centralStops (n - 1) Central.Halt
+
+central-stop-again : (s : CentralStop) → centralStopOf (centralStopNumber s) ≡ s
+central-stop-again Central.Halt = refl
+central-stop-again Central.OperandOutside = refl
+central-stop-again Central.FetchOutside = refl
+central-stop-again Central.UnfitCode = refl
+central-stop-again Central.LastParcel = refl
+
+pub central-stops-distinct : (s t : CentralStop) → centralStopNumber s ≡ centralStopNumber t → s ≡ t
+central-stops-distinct = distinct centralStopNumber centralStopOf central-stop-again
+
+abbrev peripheralStops : List PeripheralStop
+peripheralStops =
+    Peripheral.CentralAddress
+    ∷ Peripheral.NoChannel
+    ∷ Peripheral.PackagePastEnd
+    ∷ Peripheral.StrayBits
+    ∷ Peripheral.FieldPastEnd
+    ∷ Peripheral.UnfitCode
+    ∷ []
+
+abbrev peripheralStopOf : ℕ → PeripheralStop
+peripheralStopOf n = getD peripheralStops (n - 31) Peripheral.UnfitCode
+
+peripheral-stop-again : (s : PeripheralStop) → peripheralStopOf (peripheralStopNumber s) ≡ s
+peripheral-stop-again Peripheral.CentralAddress = refl
+peripheral-stop-again Peripheral.NoChannel = refl
+peripheral-stop-again Peripheral.PackagePastEnd = refl
+peripheral-stop-again Peripheral.StrayBits = refl
+peripheral-stop-again Peripheral.FieldPastEnd = refl
+peripheral-stop-again Peripheral.UnfitCode = refl
+
+pub peripheral-stops-distinct : (s t : PeripheralStop) → peripheralStopNumber s ≡ peripheralStopNumber t → s ≡ t
+peripheral-stops-distinct = distinct peripheralStopNumber peripheralStopOf peripheral-stop-again

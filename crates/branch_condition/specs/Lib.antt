@@ -1,3 +1,0 @@
--- The definitions that the contracts of `branch_condition` cite. A reader has to believe these.
--- 03 to 07
-pub mod Conditions

@@ -1,7 +1,0 @@
--- Consequences of the definitions. Assumes nothing.
-pub mod Step
-pub mod Turn
-pub mod Remaining
-pub mod Shifted
-pub mod Run
-pub mod Place

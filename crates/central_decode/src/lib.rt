@@ -1,0 +1,2 @@
+// The parts of the central processor's instructions.
+pub mod instruction;

@@ -1,0 +1,2 @@
+// The central processor's registers.
+pub mod registers;

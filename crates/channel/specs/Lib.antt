@@ -1,4 +1,0 @@
--- The definitions that the contracts of `channel` cite. A reader has to believe these; `Laws` is proved from them.
--- codes 70, 72 and 74 to 77 of document 01
-pub mod Codes
-pub mod Laws

@@ -1,0 +1,5 @@
+-- Consequences of the definitions.
+pub mod Lengths
+pub mod Room
+pub mod Stints
+pub mod Words

@@ -1,0 +1,59 @@
+-- `console_grammar::rules::apply` meets its contract.
+use borrow.Author.Needs.{needs}
+use Rattle.console_grammar.specs.Laws.Refused.{applied-refused, unreadable-line}
+use Rattle.console_grammar.specs.Laws.Entries.{applied-line, applied-as}
+use Rattle.console_grammar.proofs.rules.apply.Statement.{statement}
+use Rattle.console_grammar.proofs.rules.apply.Tie as tie
+
+on-words-requires : tie.Need-on-words-requires
+on-words-requires c κs = c .before .before .before .before .before .before .before .before .pre .1 .memory
+
+on-at-requires : tie.Need-on-at-requires
+on-at-requires c κs = c .before .before .before .before .before .before .before .pre .0
+
+on-word-requires : tie.Need-on-word-requires
+on-word-requires c κs =
+    let pre = c .before .before .before .before .before .before .before .before .pre in
+    (pre .0, pre .1 .memory)
+
+on-job-requires : tie.Need-on-job-requires
+on-job-requires c κs =
+    let pre = c .before .before .before .before .before .before .before .before .pre in
+    (pre .0, pre .1 .jobs)
+
+on-stint-requires : tie.Need-on-stint-requires
+on-stint-requires c κs =
+    let pre = c .before .before .before .before .before .before .before .before .before .pre in
+    (pre .0, pre .1 .stintJobs, pre .1 .stintTurns)
+
+returns : tie.Need-returns
+returns c = applied-line _ (c .before .before .before .before .before .line .given .1) (c .before .before .on-words .ensures)
+
+returns-2 : tie.Need-returns-2
+returns-2 c =
+    let pre = c .before .before .before .before .before .before .before .before .pre in
+    applied-line _ (c .before .before .line2 .given .1) (c .on-at .ensures _ (pre .1 .memory))
+
+returns-3 : tie.Need-returns-3
+returns-3 c = applied-line _ (c .before .before .before .before .before .line3 .given .1) (c .before .before .on-word .ensures)
+
+returns-4 : tie.Need-returns-4
+returns-4 c = applied-as (c .before .before .before .before .before .line4 .given .1) (c .before .before .on-job .ensures _ _ _)
+
+returns-5 : tie.Need-returns-5
+returns-5 c =
+    let s = c .before .before .before .before in
+    applied-as (s .before .before .before .before .line5 .given .1) (s .on-stint .ensures _ _)
+
+returns-6 : tie.Need-returns-6
+returns-6 c =
+    let part = c .before .before .before .before .before .before .before .args .p .part in
+    applied-refused (c .refuse .ensures) (unreadable-line part _ (c .before .enum-told .given .1))
+
+pub apply-spec : {M : Type 1} → statement M
+apply-spec =
+    tie.close
+    (tie.spec (λ c. search needs) on-words-requires (λ c. search needs) on-at-requires (λ c. search needs)
+    on-word-requires (λ c. search needs) on-job-requires (λ c. search needs) on-stint-requires (λ c. search needs)
+    (λ c κs. search needs) (λ c. search needs) returns returns-2 (λ c. search needs) returns-3 (λ c. search needs)
+    returns-4 (λ c. search needs) (λ c. search needs) returns-5 returns-6)

@@ -1,3 +1,0 @@
--- The definitions that the contracts of `field_test` cite. A reader has to believe these; `Laws` is proved from them.
-pub mod Address
-pub mod Laws

@@ -1,0 +1,5 @@
+-- Consequences of the definitions.
+pub mod Central
+pub mod Schedule
+pub mod Machine
+pub mod Device

@@ -1,6 +1,0 @@
-// What one line of the console's input says.
-pub mod form;
-mod one_value;
-mod stint;
-mod text;
-mod value;

@@ -1,7 +1,0 @@
--- Consequences of the definitions. Assumes nothing.
-pub mod Entries
--- what number 5 lets by
-pub mod Record
--- the record as 84 numbers and back is the record
-pub mod Numbers
-pub mod Literal

@@ -1,4 +1,0 @@
--- Consequences of the definitions. Assumes nothing.
--- what an accepted call lends, and that what is handed back may be lent again
-pub mod Verdict
-pub mod Example

@@ -1,5 +1,0 @@
--- The definitions that the contracts of `octal` cite. A reader has to believe these; `Laws` is proved from them.
-pub mod Read
-pub mod Text
-pub mod Write
-pub mod Laws

@@ -1,5 +1,0 @@
--- Consequences of the definitions. Assumes nothing.
-pub mod Lengths
-pub mod Room
-pub mod Stints
-pub mod Words

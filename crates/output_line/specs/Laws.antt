@@ -1,3 +1,0 @@
--- Consequences of the definitions. Assumes nothing.
-pub mod Bytes
-pub mod Decimal

@@ -1,0 +1,4 @@
+-- The definitions that the contracts of `peripheral_channel` cite. A reader has to believe these; `Laws` is proved from them.
+-- codes 70, 72 and 74 to 77 of document 01
+pub mod Codes
+pub mod Laws

@@ -1,0 +1,4 @@
+-- Consequences of the definitions.
+pub mod Addresses
+-- every effect names places that are there, and values of their widths
+pub mod Effects

@@ -1,0 +1,79 @@
+// Codes 26, 60 and 62.
+ghost use mathlib.Core.Path.{_≡_};
+ghost use Prim.Native.Nat.{_<_};
+ghost use Rattle.peripheral_io.specs.CentralSide.{faultStop, exchangeOf, readCentral, joined, writeCentral};
+ghost use Rattle.peripheral_codes.specs.Widths.{Memory, Held};
+use base_outcome::refusal::Verdict;
+use base_outcome::stop::PeripheralStop;
+use exchange_jump::jump::package_verdict;
+use peripheral_codes::addresses::onward;
+use peripheral_codes::addresses::read;
+use peripheral_machine::effect::PeripheralEffect;
+use peripheral_machine::numbers::Processor;
+use word_fields::fields::from_parts;
+
+// The stop of a package's fault, by the number of its refusal.
+fn fault_stop(fault: u64) -> PeripheralStop
+    ensures { λ s. ⌜ s ≡ faultStop fault ⌝ }
+{
+    if fault == 9 {
+        return PeripheralStop::PackagePastEnd;
+    }
+    if fault == 10 {
+        return PeripheralStop::StrayBits;
+    }
+    PeripheralStop::FieldPastEnd
+}
+
+// 26.
+pub fn exchange_of(c: &[u64], q: Processor) -> PeripheralEffect
+    requires { ⌜ Held q ⌝ }
+    ensures { λ e. ⌜ e ≡ exchangeOf (now (c .entry)) q ⌝ }
+{
+    match package_verdict(c, q.a) {
+        Verdict::Accepted => PeripheralEffect::Exchange(onward(q.p, 1), q.a, q.a as usize),
+        Verdict::Refused(r) => PeripheralEffect::Stop(fault_stop(r.number())),
+    }
+}
+
+// 60.
+pub fn read_central(c: &[u64], q: Processor, d: u64) -> PeripheralEffect
+    requires { ⌜ Held q ⌝ }
+    requires { ⌜ d < 64 ⌝ }
+    ensures { λ e. ⌜ e ≡ readCentral (now (c .entry)) q d ⌝ }
+{
+    let i = q.a as usize;
+    if i < c.len() {
+        return PeripheralEffect::ReadCentral(onward(q.p, 1), q.a, d as usize, c[i]);
+    }
+    PeripheralEffect::Stop(PeripheralStop::CentralAddress)
+}
+
+// The word of the five parts from d up.
+fn joined(m: &[u16], d: u64) -> u64
+    requires { ⌜ Memory (now m) ⌝ }
+    requires { ⌜ d < 64 ⌝ }
+    ensures { λ w. ⌜ w ≡ joined (now (m .entry)) d ⌝ }
+{
+    from_parts(
+        read(m, d),
+        read(m, d + 1),
+        read(m, d + 2),
+        read(m, d + 3),
+        read(m, d + 4),
+    )
+}
+
+// 62.
+pub fn write_central(m: &[u16], c: &[u64], q: Processor, d: u64) -> PeripheralEffect
+    requires { ⌜ Memory (now m) ⌝ }
+    requires { ⌜ Held q ⌝ }
+    requires { ⌜ d < 64 ⌝ }
+    ensures { λ e. ⌜ e ≡ writeCentral (now (m .entry)) (now (c .entry)) q d ⌝ }
+{
+    let at = q.a as usize;
+    if at < c.len() {
+        return PeripheralEffect::WriteCentral(onward(q.p, 1), q.a, at, joined(m, d));
+    }
+    PeripheralEffect::Stop(PeripheralStop::CentralAddress)
+}

@@ -1,8 +1,0 @@
--- The definitions that the contracts of `reading` cite. A reader has to believe Lines, and Grammar or Reading:
--- `Laws` shows that these two say the same, and ties the rest to them.
-pub mod Lines
-pub mod Reading
-pub mod Grammar
-pub mod Held
-pub mod Applied
-pub mod Laws

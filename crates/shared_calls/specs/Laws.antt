@@ -1,0 +1,5 @@
+-- Consequences of the definitions.
+pub mod Stints
+pub mod Answer
+pub mod Isolation
+pub mod OneJob

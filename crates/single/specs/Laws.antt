@@ -1,5 +1,0 @@
--- Consequences of the definitions. Assumes nothing.
-pub mod Host
-pub mod Turns
-pub mod FieldRun
-pub mod Program

@@ -1,0 +1,5 @@
+-- Consequences of the definitions.
+pub mod RecordCalls
+pub mod Turns
+pub mod FieldRun
+pub mod Program

@@ -1,2 +1,0 @@
-// WHOLE: the entry points on the whole machine, with peripheral processors, channels and clock. The device calls are in `device`.
-pub mod call;

@@ -1,0 +1,3 @@
+-- Consequences of the definitions.
+-- what turns keep, and the loop over them
+pub mod Processors
