@@ -13,9 +13,12 @@
  * read. No other thread uses them during the call. All else is tested: any length, any word, any
  * value of a record, any address and any count gets an answer.
  *
+ * Slices of a wrong length have one rule: a memory is number 1 or 2, a record 5, any list or
+ * result 6.
+ *
  * A result slice may be longer than the result; its other elements keep their values. After a
- * refusal the result is 0 throughout. A result slice that is too short is number 6 and nothing is
- * written to it, whatever the number that is given.
+ * refusal a result of counts (turns, stops, rounds) is 0 throughout, and that of tozhenab_take is
+ * as it was. A result slice that is too short is as it was after any refusal.
  *
  * What a call costs: it tests every word of the memories that it is lent, whatever it then does. On
  * 131,072 words that takes more than a thousand times one turn. So step in batches, by
@@ -176,7 +179,8 @@ uint64_t tozhenab_run(uint64_t *central, size_t central_length, uint16_t *periph
  *
  * tozhenab_put fills an active, empty channel with a word. Refusals 5, 13, 14.
  * tozhenab_take empties an active, full channel and gives its word and mark; taking a function also
- * makes the channel inactive. result: TOZHENAB_TAKEN_NUMBERS. Refusals 5, 6 (a short result), 15.
+ * makes the channel inactive. result: TOZHENAB_TAKEN_NUMBERS, written where a word is taken alone.
+ * Refusals 5, 6 (a short result), 15.
  * tozhenab_drop makes any channel inactive and empty. Refusal 5.
  */
 uint64_t tozhenab_put(uint64_t *channel, size_t channel_length, uint64_t word);

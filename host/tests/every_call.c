@@ -129,13 +129,20 @@ static void run_program(void)
 {
     uint64_t memory[WORDS];
     const uint64_t record[TOZHENAB_CENTRAL_NUMBERS] = {0};
-    uint64_t ran[TOZHENAB_RAN_NUMBERS];
+    uint64_t ran[TOZHENAB_RAN_NUMBERS] = {7, 7};
 
     load(memory);
     expect("run of a program in a short result",
            tozhenab_run_program(memory, LENGTH(memory), record, LENGTH(record), 0, 5, ran,
                                 LENGTH(ran) - 1),
            TOZHENAB_LIST_LENGTH);
+    expect("run of a program: a short result is kept", ran[TOZHENAB_RAN_TURNS], 7);
+    expect("run of a program past the end",
+           tozhenab_run_program(memory, LENGTH(memory), record, LENGTH(record), 061, 5, ran,
+                                LENGTH(ran)),
+           TOZHENAB_PACKAGE_PAST_END);
+    expect("refused run of a program: turns", ran[TOZHENAB_RAN_TURNS], 0);
+    expect("refused run of a program: stop", ran[TOZHENAB_RAN_STOP], 0);
     expect("run of a program",
            tozhenab_run_program(memory, LENGTH(memory), record, LENGTH(record), 0, 5, ran,
                                 LENGTH(ran)),
@@ -214,7 +221,7 @@ static void put_take_and_drop(void)
 {
     uint64_t record[TOZHENAB_MACHINE_NUMBERS] = {0};
     uint64_t *channel = record + TOZHENAB_MACHINE_CHANNEL(013);
-    uint64_t taken[TOZHENAB_TAKEN_NUMBERS];
+    uint64_t taken[TOZHENAB_TAKEN_NUMBERS] = {7, 7};
 
     expect("put on an inactive channel", tozhenab_put(channel, TOZHENAB_CHANNEL_NUMBERS, 01234),
            TOZHENAB_PUT_UNMET);
@@ -222,6 +229,8 @@ static void put_take_and_drop(void)
     expect("take from an empty channel",
            tozhenab_take(channel, TOZHENAB_CHANNEL_NUMBERS, taken, LENGTH(taken)),
            TOZHENAB_TAKE_UNMET);
+    expect("refused take: the first of its result", taken[TOZHENAB_TAKEN_WORD], 7);
+    expect("refused take: the second of its result", taken[TOZHENAB_TAKEN_MARK], 7);
     expect("put", tozhenab_put(channel, TOZHENAB_CHANNEL_NUMBERS, 01234), TOZHENAB_ACCEPTED);
     expect("put: full", channel[TOZHENAB_CHANNEL_FULL], 1);
     expect("take", tozhenab_take(channel, TOZHENAB_CHANNEL_NUMBERS, taken, LENGTH(taken)),

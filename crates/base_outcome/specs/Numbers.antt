@@ -1,4 +1,5 @@
 -- The number that document 01 gives to each refusal ("Who can be turned down") and each stop ("Central turn", "Peripheral turn").
+-- "Where an answer is an enum, a definition tells you this paper's number and values for each of its cases. The promises use that definition."
 use Prim.Native.Nat.{ℕ}
 use Rattle.base_outcome.specs.declared.refusal.Refusal.{Refusal}
 use Rattle.base_outcome.specs.declared.refusal.Refusal.the-variants as Refused
@@ -18,7 +19,9 @@ refusalNumber Refused.CentralWord = 3
 refusalNumber Refused.PeripheralWord = 4
 -- 5 record value over its width, a stop not listed for that processor, stray EM bit, nonzero B0, or RA + FL past the memory (where lent)
 refusalNumber Refused.RecordValue = 5
--- 6 no job, over 16 jobs, over 256 stints, or lists of unequal length; for hosts in C and Rust also a result slice that is too short
+-- 6 no job, over 16 jobs, over 256 stints, or lists of unequal length
+-- For slices that document 01 does not describe there is one rule: a memory of a wrong length is 1 or 2, a record of a wrong length is 5,
+-- any list, result or output slice of a wrong length is 6
 refusalNumber Refused.ListLength = 6
 -- 7 stint of no listed job
 refusalNumber Refused.UnlistedJob = 7

@@ -76,6 +76,26 @@ fn matches(matched: u64, byte: u8) -> bool {
     false
 }
 
+// Slices with the lengths that `main` gives them are not refused.
+fn feed_bytes(
+    r: Reader,
+    bytes: &[u8],
+    memory: &mut [u64],
+    jobs: &mut [u64],
+    stint_jobs: &mut [u64],
+    stint_turns: &mut [u64],
+) -> Reader {
+    let fed = feed(
+        r,
+        bytes,
+        &mut *memory,
+        &mut *jobs,
+        &mut *stint_jobs,
+        &mut *stint_turns,
+    );
+    fed.reader
+}
+
 fn feed_line_feed(
     held: bool,
     r: Reader,
@@ -85,7 +105,7 @@ fn feed_line_feed(
     stint_turns: &mut [u64],
 ) -> Reader {
     if held {
-        return feed(
+        return feed_bytes(
             r,
             b"\n",
             &mut *memory,
@@ -125,7 +145,7 @@ fn release(
         &mut *stint_turns,
     );
     if c.unended {
-        return feed(
+        return feed_bytes(
             r,
             b"====-",
             &mut *memory,
@@ -136,7 +156,7 @@ fn release(
     }
     let marker = [b'='; 5];
     let n = marker_length(c.matched);
-    feed(
+    feed_bytes(
         r,
         &marker[..n],
         &mut *memory,
@@ -159,7 +179,7 @@ fn plain(
         return with(r, true, 0, false);
     }
     let one = [byte];
-    let next = feed(
+    let next = feed_bytes(
         r,
         &one,
         &mut *memory,

@@ -7,6 +7,7 @@ use lib.Dec.{leb}
 use lib.ListN.{length, drop}
 use lib.Seq.{sets}
 use Rattle.base_outcome.specs.Numbers.{refusalNumber}
+use Rattle.base_outcome.specs.declared.refusal.Refusal.the-variants as Refusal
 use Rattle.base_outcome.specs.declared.refusal.Verdict.{Verdict}
 use Rattle.base_outcome.specs.declared.refusal.Verdict.the-variants as Call
 use Rattle.base_lists.specs.Written.{Wrote}
@@ -15,31 +16,41 @@ use Rattle.shared_schedule.specs.Schedule.{Schedule}
 use Rattle.shared_calls.specs.Answer.{scheduleAnswer}
 use Rattle.shared_calls.specs.declared.call.ScheduleAnswer.{ScheduleAnswer}
 use Rattle.console_grammar.specs.Reading.{Reading, noLine, readable, unreadable}
+use Rattle.console_grammar.specs.Held.{Lists}
+use Rattle.console_reader.specs.Reader.{readerVerdict, readAtEnd}
+use Rattle.console_reader.specs.declared.reader.Reader.{Reader}
 use Rattle.console_answer.specs.Text.{stintsText, wordsText, refusedText}
 use Rattle.console_calls.specs.Console.{scheduleIn, printed, outputOn}
 use Rattle.console_calls.specs.declared.finish.Output.{Output}
-use Rattle.console_calls.specs.declared.finish.Output.the-variants.{Bytes, TooShort}
+use Rattle.console_calls.specs.declared.finish.Output.the-variants.{Bytes, Refused}
 
 -- the room that every answer fits in: 256 stints of 93 bytes at most, and 4,096 words of 44 bytes at most
 abbrev pub mostBytes : ℕ
 mostBytes = 204032
 
--- the bytes that an answer takes up. `TooShort` is no number of document 01: a host that lends less room has not made the call that the
--- paper speaks of
+-- the bytes that an answer takes up
 abbrev pub bytesIn : Output → ℕ
 bytesIn (Bytes n) = n
-bytesIn TooShort = 0
+bytesIn (Refused r) = 0
 
+-- 0 for an answer. That an input is refused is an answer too, in the buffer: a line `refused=` with its number
+abbrev pub outputNumber : Output → ℕ
+outputNumber (Bytes n) = 0
+outputNumber (Refused r) = refusalNumber r
+
+-- what the host gets back of the buffer: the number, and the answer with its bytes
 pub record Written : Type 0 where
+  pub number : ℕ
   pub answer : Output
   pub out : List ℕ
 
 abbrev pub written : Output → List ℕ → Written
-written answer out = record { answer = answer; out = out }
+written answer out = record { number = outputNumber answer; answer = answer; out = out }
 
--- the answer stands from the first byte of the buffer on; a buffer that might be too short is left as it is
+-- the answer stands from the first byte of the buffer on. A buffer that might be too short is 6, as any list of a wrong length, and left as it is
 unfoldable pub writtenTo : List ℕ → List ℕ → Written
-writtenTo bytes out = cond (leb mostBytes (length out)) (written (Bytes (length bytes)) (sets out 0 bytes)) (written TooShort out)
+writtenTo bytes out =
+    cond (leb mostBytes (length out)) (written (Bytes (length bytes)) (sets out 0 bytes)) (written (Refused Refusal.ListLength) out)
 
 -- the memory after the schedule of a request; the words past the request's memory stay
 unfoldable pub memoryAfter : Reading → List ℕ → List ℕ
@@ -60,6 +71,14 @@ finished w m = record { written = w; memory = m }
 
 abbrev pub finishTo : Reading → List ℕ → List ℕ → Finished
 finishTo x out m = finished (writtenTo (outputOn x) out) (finishedMemory x out m)
+
+-- "Lowest number first": 1, 5 and 6 for the reader and the slices that it was lent, then 6 for the buffer. After a refusal nothing changes
+abbrev pub finishBy : Verdict → Reading → List ℕ → List ℕ → Finished
+finishBy Call.Accepted x out m = finishTo x out m
+finishBy (Call.Refused r) x out m = finished (written (Refused r) out) m
+
+unfoldable pub finishAnswer : Reader → List ℕ → Lists → List ℕ → Finished
+finishAnswer r m l out = finishBy (readerVerdict r m l) (readAtEnd r m l) out m
 
 -- the lines of an accepted or refused call, by the jobs, the turns made and the stops of its stints and the memory after it
 abbrev pub printedBy : Verdict → List ℕ → List ℕ → List ℕ → List ℕ → List ℕ

@@ -1,26 +1,41 @@
 // The end of an input: its answer.
 ghost use mathlib.Core.Path.{_≡_};
 ghost use Rattle.console_grammar.specs.Held.{lists};
-ghost use Rattle.console_reader.specs.Reader.{feedingOf, endOf};
-ghost use Rattle.console_calls.specs.Finish.{written, finished, finishTo};
+ghost use Rattle.console_reader.specs.Fed.{ReaderReady};
+ghost use Rattle.console_reader.specs.Reader.{readAtEnd};
+ghost use Rattle.console_calls.specs.Finish.{outputNumber, written, finished, finishTo, finishAnswer};
 use super::run::run;
 use base_outcome::refusal::Refusal;
+use base_outcome::refusal::Verdict;
 use console_answer::refused::write_refused;
 use console_reader::reader::Reader;
 use console_reader::reader::is_complete;
+use console_reader::reader::reader_verdict;
 
 // The room that every answer fits in: 256 stints of 93 bytes at most, and 4,096 words of 44 bytes at most.
 pub const OUTPUT_BYTES: usize = 204032;
 
-// How much of the buffer the answer takes up.
+// What becomes of the end of an input.
 pub enum Output {
+    // How much of the buffer the answer takes up.
     Bytes(usize),
-    // The buffer has less room than the longest answer needs.
-    TooShort,
+    Refused(Refusal),
 }
 
-// Answers the input that a reader has read.
-pub fn finish(
+impl Output {
+    // 0 where there is an answer.
+    pub fn number(self) -> u64
+        ensures { λ r. ⌜ r ≡ outputNumber self ⌝ }
+    {
+        match self {
+            Output::Bytes(_) => 0,
+            Output::Refused(r) => r.number(),
+        }
+    }
+}
+
+// Answers the input of a reader that no number refuses.
+fn answer_input(
     r: Reader,
     memory: &mut [u64],
     jobs: &[u64],
@@ -28,15 +43,16 @@ pub fn finish(
     stint_turns: &[u64],
     out: &mut [u8],
 ) -> Output
+    requires { ⌜ ReaderReady r (now memory) (lists (now jobs) (now «stint_jobs») (now «stint_turns»)) ⌝ }
     ensures { λ o.
         ⌜ finished (written o (now (out .exit))) (now (memory .exit))
-        ≡ finishTo (endOf (feedingOf r (now (memory .entry)) (lists (now (jobs .entry)) (now («stint_jobs» .entry)) (now («stint_turns» .entry)))))
+        ≡ finishTo (readAtEnd r (now (memory .entry)) (lists (now (jobs .entry)) (now («stint_jobs» .entry)) (now («stint_turns» .entry))))
         (now (out .entry)) (now (memory .entry)) ⌝ }
 {
     if out.len() < OUTPUT_BYTES {
-        return Output::TooShort;
+        return Output::Refused(Refusal::ListLength);
     }
-    if !is_complete(r, &*memory, jobs, stint_jobs, stint_turns) {
+    if !is_complete(r) {
         let n = write_refused(&mut *out, 0, Refusal::UnreadableLine.number());
         return Output::Bytes(n);
     }
@@ -51,4 +67,26 @@ pub fn finish(
         &mut *out,
     );
     Output::Bytes(n)
+}
+
+// Answers the input that a reader has read.
+pub fn finish(
+    r: Reader,
+    memory: &mut [u64],
+    jobs: &[u64],
+    stint_jobs: &[u64],
+    stint_turns: &[u64],
+    out: &mut [u8],
+) -> Output
+    ensures { λ o.
+        ⌜ finished (written o (now (out .exit))) (now (memory .exit))
+        ≡ finishAnswer r (now (memory .entry)) (lists (now (jobs .entry)) (now («stint_jobs» .entry)) (now («stint_turns» .entry)))
+        (now (out .entry)) ⌝ }
+{
+    match reader_verdict(r, &*memory, jobs, stint_jobs, stint_turns) {
+        Verdict::Accepted => {
+            answer_input(r, &mut *memory, jobs, stint_jobs, stint_turns, &mut *out)
+        }
+        Verdict::Refused(x) => Output::Refused(x),
+    }
 }

@@ -17,7 +17,7 @@ pub fn answer(input: &[u8], out: &mut [u8]) -> Output
     let mut jobs = [0u64; JOB_ENTRIES];
     let mut stint_jobs = [0u64; STINT_ENTRIES];
     let mut stint_turns = [0u64; STINT_ENTRIES];
-    let r = feed(
+    let fed = feed(
         start(),
         input,
         &mut memory,
@@ -25,5 +25,6 @@ pub fn answer(input: &[u8], out: &mut [u8]) -> Output
         &mut stint_jobs,
         &mut stint_turns,
     );
+    let r = fed.reader;
     finish(r, &mut memory, &jobs, &stint_jobs, &stint_turns, &mut *out)
 }

@@ -9,4 +9,6 @@ pub mod Refused
 pub mod Words
 pub mod Blocks
 pub mod Entries
+pub mod Store
+pub mod StoreHeld
 pub mod Jobs

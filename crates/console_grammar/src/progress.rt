@@ -29,7 +29,7 @@ pub struct Progress {
 }
 
 // The progress of an unreadable input.
-pub fn refuse() -> Progress
+pub(crate) fn refuse() -> Progress
     ensures { λ r. ⌜ r ≡ unreadableProgress ⌝ }
 {
     Progress {

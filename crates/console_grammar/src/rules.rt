@@ -1,8 +1,10 @@
 // What each kind of line does to the input read so far.
 ghost use mathlib.Core.Path.{_≡_};
+ghost use Prim.Native.Nat.{_≤_};
 ghost use lib.ListN.{length, replicate};
 ghost use Rattle.console_grammar.specs.Held.{lists, jobEntries, stintEntries, CountsFit, Room};
-ghost use Rattle.console_grammar.specs.Applied.{Begun, BeginRead, LineRead, Applied, JobRead, StintRead};
+ghost use Rattle.console_grammar.specs.Store.{over};
+ghost use Rattle.console_grammar.specs.Applied.{Applied, Begun, LineRead, BeginRead, JobRead, StintRead};
 ghost use Rattle.console_line.specs.declared.form.Line.the-variants.{Words, Word};
 use super::progress::JOB_ENTRIES;
 use super::progress::Part;
@@ -13,18 +15,20 @@ use super::progress::with_jobs;
 use super::progress::with_stints;
 use console_line::form::Line;
 
-fn clear(memory: &mut [u64])
-    ensures { λ _. ⌜ now (memory .exit) ≡ replicate (length (now (memory .entry))) 0 ⌝ }
+// Clears the first words of a memory.
+fn clear(memory: &mut [u64], words: usize)
+    requires { ⌜ words ≤ length (now memory) ⌝ }
+    ensures { λ _. ⌜ now (memory .exit) ≡ over (replicate words 0) (now (memory .entry)) ⌝ }
 {
     let mut i: usize = 0;
-    while i < memory.len() {
+    while i < words {
         memory[i] = 0;
         i = i + 1;
     }
 }
 
 fn on_words(p: Progress, n: u64, memory: &mut [u64]) -> Progress
-    requires { ⌜ length (now memory) ≡ 4096 ⌝ }
+    requires { ⌜ length (now memory) ≡ 0o10000 ⌝ }
     ensures { λ r. ⌜ LineRead (Words n) p (now (memory .entry)) r (now (memory .exit)) ⌝ }
 {
     if n < 1 {
@@ -36,10 +40,11 @@ fn on_words(p: Progress, n: u64, memory: &mut [u64]) -> Progress
     let part = p.part;
     match part {
         Part::Start => {
-            clear(&mut *memory);
+            let words = n as usize;
+            clear(&mut *memory, words);
             Progress {
                 part: Part::Words,
-                words: n as usize,
+                words,
                 jobs: 0,
                 stints: 0,
             }
@@ -85,7 +90,7 @@ fn on_at(p: Progress, a: u64) -> Progress
 }
 
 fn on_word(p: Progress, w: u64, memory: &mut [u64]) -> Progress
-    requires { ⌜ CountsFit p × (length (now memory) ≡ 4096) ⌝ }
+    requires { ⌜ CountsFit p × (length (now memory) ≡ 0o10000) ⌝ }
     ensures { λ r. ⌜ LineRead (Word w) p (now (memory .entry)) r (now (memory .exit)) ⌝ }
 {
     let part = p.part;

@@ -1,14 +1,15 @@
 // Reads an input line by line, so that one of any length needs no more than the lent memory.
 ghost use mathlib.Core.Path.{_≡_};
 ghost use Rattle.console_grammar.specs.Held.{lists};
-ghost use Rattle.console_reader.specs.Reader.{atLineStart, emptyReader, hasRoom, isReady, canRead, feedingOf, endOf, isReadable};
-ghost use Rattle.console_reader.specs.Fed.{ReaderReady, FedAll, FedAny};
+ghost use Rattle.console_reader.specs.Reader.{readerState, emptyReader, bytesFed, listsLong, readerFits, readerVerdict, feedAnswerTo, feedAnswer, isComplete};
+ghost use Rattle.console_reader.specs.Fed.{ReaderReady};
 use super::line_bytes::fill;
+use base_outcome::refusal::Refusal;
+use base_outcome::refusal::Verdict;
 use console_grammar::progress::JOB_ENTRIES;
 use console_grammar::progress::Part;
 use console_grammar::progress::Progress;
 use console_grammar::progress::STINT_ENTRIES;
-use console_grammar::progress::refuse;
 use console_grammar::rules::apply;
 use console_line::form::line_of;
 
@@ -22,26 +23,26 @@ pub struct Reader {
     pub length: usize,
 }
 
-fn at_line_start(progress: Progress) -> Reader
-    ensures { λ r. ⌜ r ≡ atLineStart progress ⌝ }
-{
-    Reader {
-        progress,
-        line: [0; 32],
-        length: 0,
-    }
+// The verdict on what is lent, and the reader.
+pub struct FeedAnswer {
+    pub verdict: Verdict,
+    pub reader: Reader,
 }
 
 // A reader that has read nothing.
 pub fn start() -> Reader
     ensures { λ r. ⌜ r ≡ emptyReader ⌝ }
 {
-    at_line_start(Progress {
-        part: Part::Start,
-        words: 0,
-        jobs: 0,
-        stints: 0,
-    })
+    Reader {
+        progress: Progress {
+            part: Part::Start,
+            words: 0,
+            jobs: 0,
+            stints: 0,
+        },
+        line: [0; 32],
+        length: 0,
+    }
 }
 
 // The bytes of a line are taken at once, and progress is touched once a line: so reading is fast. One place calls `fill`: with two, the turns
@@ -56,8 +57,9 @@ fn feed_all(
 ) -> Reader
     requires { ⌜ ReaderReady r (now memory) (lists (now jobs) (now «stint_jobs») (now «stint_turns»)) ⌝ }
     ensures { λ o.
-        ⌜ FedAll (now (bytes .entry)) r (now (memory .entry)) (lists (now (jobs .entry)) (now («stint_jobs» .entry)) (now («stint_turns» .entry)))
-        o (now (memory .exit)) (lists (now (jobs .exit)) (now («stint_jobs» .exit)) (now («stint_turns» .exit))) ⌝ }
+        ⌜ readerState o (now (memory .exit)) (lists (now (jobs .exit)) (now («stint_jobs» .exit)) (now («stint_turns» .exit)))
+        ≡ bytesFed (readerState r (now (memory .entry)) (lists (now (jobs .entry)) (now («stint_jobs» .entry)) (now («stint_turns» .entry))))
+        (now (bytes .entry)) ⌝ }
 {
     let mut progress = r.progress;
     let mut line = r.line;
@@ -88,12 +90,9 @@ fn feed_all(
     }
 }
 
-fn has_room(memory: &[u64], jobs: &[u64], stint_jobs: &[u64], stint_turns: &[u64]) -> bool
-    ensures { λ r. ⌜ r ≡ hasRoom (now (memory .entry)) (lists (now (jobs .entry)) (now («stint_jobs» .entry)) (now («stint_turns» .entry))) ⌝ }
+fn lists_long(jobs: &[u64], stint_jobs: &[u64], stint_turns: &[u64]) -> bool
+    ensures { λ r. ⌜ r ≡ listsLong (lists (now (jobs .entry)) (now («stint_jobs» .entry)) (now («stint_turns» .entry))) ⌝ }
 {
-    if memory.len() != MEMORY_WORDS {
-        return false;
-    }
     if jobs.len() != JOB_ENTRIES {
         return false;
     }
@@ -103,8 +102,8 @@ fn has_room(memory: &[u64], jobs: &[u64], stint_jobs: &[u64], stint_turns: &[u64
     stint_turns.len() == STINT_ENTRIES
 }
 
-fn is_ready(r: Reader) -> bool
-    ensures { λ o. ⌜ o ≡ isReady r ⌝ }
+fn reader_fits(r: Reader) -> bool
+    ensures { λ o. ⌜ o ≡ readerFits r ⌝ }
 {
     if MEMORY_WORDS < r.progress.words {
         return false;
@@ -118,22 +117,29 @@ fn is_ready(r: Reader) -> bool
     r.length <= 32
 }
 
-fn can_read(
+// Numbers 1, 5 and 6: whether the lent memory and lists have their room, and the reader's counts are within it.
+pub fn reader_verdict(
     r: Reader,
     memory: &[u64],
     jobs: &[u64],
     stint_jobs: &[u64],
     stint_turns: &[u64],
-) -> bool
-    ensures { λ o. ⌜ o ≡ canRead r (now (memory .entry)) (lists (now (jobs .entry)) (now («stint_jobs» .entry)) (now («stint_turns» .entry))) ⌝ }
+) -> Verdict
+    ensures { λ o. ⌜ o ≡ readerVerdict r (now (memory .entry)) (lists (now (jobs .entry)) (now («stint_jobs» .entry)) (now («stint_turns» .entry))) ⌝ }
 {
-    if !has_room(memory, jobs, stint_jobs, stint_turns) {
-        return false;
+    if memory.len() != MEMORY_WORDS {
+        return Verdict::Refused(Refusal::CentralLength);
     }
-    is_ready(r)
+    if !reader_fits(r) {
+        return Verdict::Refused(Refusal::RecordValue);
+    }
+    if !lists_long(jobs, stint_jobs, stint_turns) {
+        return Verdict::Refused(Refusal::ListLength);
+    }
+    Verdict::Accepted
 }
 
-// Reads the next bytes of the input. With slices of other lengths the input is unreadable.
+// Reads the next bytes of the input.
 pub fn feed(
     r: Reader,
     bytes: &[u8],
@@ -141,39 +147,38 @@ pub fn feed(
     jobs: &mut [u64],
     stint_jobs: &mut [u64],
     stint_turns: &mut [u64],
-) -> Reader
+) -> FeedAnswer
     ensures { λ o.
-        ⌜ FedAny (now (bytes .entry)) r (now (memory .entry)) (lists (now (jobs .entry)) (now («stint_jobs» .entry)) (now («stint_turns» .entry)))
-        o (now (memory .exit)) (lists (now (jobs .exit)) (now («stint_jobs» .exit)) (now («stint_turns» .exit))) ⌝ }
+        ⌜ feedAnswerTo (now (memory .exit)) (lists (now (jobs .exit)) (now («stint_jobs» .exit)) (now («stint_turns» .exit))) o
+        ≡ feedAnswer (readerState r (now (memory .entry)) (lists (now (jobs .entry)) (now («stint_jobs» .entry)) (now («stint_turns» .entry))))
+        (now (bytes .entry)) ⌝ }
 {
-    if !can_read(r, &*memory, &*jobs, &*stint_jobs, &*stint_turns) {
-        let unreadable = at_line_start(refuse());
-        return unreadable;
+    match reader_verdict(r, &*memory, &*jobs, &*stint_jobs, &*stint_turns) {
+        Verdict::Accepted => {
+            let after = feed_all(
+                r,
+                bytes,
+                &mut *memory,
+                &mut *jobs,
+                &mut *stint_jobs,
+                &mut *stint_turns,
+            );
+            FeedAnswer {
+                verdict: Verdict::Accepted,
+                reader: after,
+            }
+        }
+        Verdict::Refused(x) => FeedAnswer {
+            verdict: Verdict::Refused(x),
+            reader: r,
+        },
     }
-    feed_all(
-        r,
-        bytes,
-        &mut *memory,
-        &mut *jobs,
-        &mut *stint_jobs,
-        &mut *stint_turns,
-    )
 }
 
 // Whether the input is readable, if it ends here.
-pub fn is_complete(
-    r: Reader,
-    memory: &[u64],
-    jobs: &[u64],
-    stint_jobs: &[u64],
-    stint_turns: &[u64],
-) -> bool
-    ensures { λ o.
-        ⌜ o ≡ isReadable (endOf (feedingOf r (now (memory .entry)) (lists (now (jobs .entry)) (now («stint_jobs» .entry)) (now («stint_turns» .entry))))) ⌝ }
+pub fn is_complete(r: Reader) -> bool
+    ensures { λ o. ⌜ o ≡ isComplete r ⌝ }
 {
-    if !can_read(r, memory, jobs, stint_jobs, stint_turns) {
-        return false;
-    }
     if r.length != 0 {
         return false;
     }

@@ -5,7 +5,7 @@ use mathlib.Core.Path.{_≡_}
 use Prim.Native.Nat.{ℕ, _≤_}
 use lib.ListN.{length, getD}
 use lib.Seq.{sets}
-use Rattle.whole_device.specs.Device.{takenNumber}
+use Rattle.whole_device.specs.Device.{TakeAnswered}
 use Rattle.whole_device.specs.declared.calls.TakeAnswer.{TakeAnswer}
 use Rattle.whole_device.specs.declared.calls.Taken.{Taken}
 use Rattle.whole_device.specs.declared.calls.Taken.the-variants as Take
@@ -25,19 +25,19 @@ pub record TakeLeft : Type 0 where
 abbrev pub takeLeft : ℕ → List ℕ → List ℕ → TakeLeft
 takeLeft n c out = record { number = n; channel = c; result = out }
 
--- the word, and 1 for a function
-abbrev pub takenNumbers : Taken → List ℕ
-takenNumbers (Take.Word word mark) = word ∷ flag mark ∷ []
-takenNumbers (Take.Refused r) = 0 ∷ 0 ∷ []
-
--- "After a refusal the state comes back equal"
+-- "After a refusal the state comes back equal": the channel as it was lent
 abbrev pub takenKept : Taken → List ℕ → List ℕ → List ℕ
 takenKept (Take.Word word mark) numbers given = numbers
 takenKept (Take.Refused r) numbers given = given
 
-abbrev pub takeBy : List ℕ → List ℕ → TakeAnswer → TakeLeft
+-- the word, and 1 for a function, from the first entry on; after a refusal the result slice as it was lent, since it holds no counts
+abbrev pub takenResult : Taken → List ℕ → List ℕ
+takenResult (Take.Word word mark) out = sets out 0 (word ∷ flag mark ∷ [])
+takenResult (Take.Refused r) out = out
+
+abbrev pub takeBy : List ℕ → List ℕ → TakeAnswered → TakeLeft
 takeBy c out a =
-    takeLeft (takenNumber (a .verdict)) (takenKept (a .verdict) (channelNumbers (a .channel)) c) (sets out 0 (takenNumbers (a .verdict)))
+    takeLeft (a .number) (takenKept (a .answer .verdict) (channelNumbers (a .answer .channel)) c) (takenResult (a .answer .verdict) out)
 
 -- where a take may store: the channel's four numbers, if there is a word
 pub record TakeStorable (channel result : List ℕ) (a : TakeAnswer) : Type 0 where

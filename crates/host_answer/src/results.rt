@@ -4,6 +4,7 @@ ghost use Prim.Native.Nat.{_*_, _≤_};
 ghost use lib.ListN.{length, getD};
 ghost use Rattle.base_lists.specs.Rows.{rows};
 ghost use Rattle.base_lists.specs.Written.{Stores};
+ghost use Rattle.whole_device.specs.Device.{takeAnswerTo};
 ghost use Rattle.host_answer.specs.Results.{stintRow, takeLeft, takeBy, TakeStorable};
 use super::write::store_channel;
 use peripheral_machine::numbers::flag;
@@ -33,10 +34,10 @@ pub fn store_stints(result: &mut [u64], turns: &[u64], stops: &[u64], n: usize)
     }
 }
 
-// Stores what a take gave: the word and the mark, and the channel after it; after a refusal 0 twice.
+// Stores what a take gave: the word and the mark, and the channel after it. A refusal stores nothing.
 pub fn keep_taken(channel: &mut [u64], result: &mut [u64], a: TakeAnswer) -> u64
     requires { ⌜ TakeStorable (now channel) (now result) a ⌝ }
-    ensures { λ n. ⌜ takeLeft n (now (channel .exit)) (now (result .exit)) ≡ takeBy (now (channel .entry)) (now (result .entry)) a ⌝ }
+    ensures { λ n. ⌜ takeLeft n (now (channel .exit)) (now (result .exit)) ≡ takeBy (now (channel .entry)) (now (result .entry)) (takeAnswerTo a) ⌝ }
 {
     let taken = a.verdict;
     let after = a.channel;
@@ -47,10 +48,6 @@ pub fn keep_taken(channel: &mut [u64], result: &mut [u64], a: TakeAnswer) -> u64
             result[1] = flag(mark);
             0
         }
-        Taken::Refused(r) => {
-            result[0] = 0;
-            result[1] = 0;
-            r.number()
-        }
+        Taken::Refused(r) => r.number(),
     }
 }

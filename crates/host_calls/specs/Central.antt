@@ -5,7 +5,6 @@ use Prim.Native.Nat.{ℕ}
 use lib.Dec.{leb}
 use lib.ListN.{length}
 use lib.Seq.{sets}
-use Rattle.base_outcome.specs.Numbers.{verdictNumber}
 use Rattle.central_record.specs.Record.{hostVerdict}
 use Rattle.single_calls.specs.RecordCalls.{CentralAnswered, turnAnswer, exchangeAnswer}
 use Rattle.single_calls.specs.Turns.{TurnsAnswered, turnsAnswer}
@@ -25,7 +24,7 @@ centralLeft n m c = record { number = n; memory = m; central = c }
 
 abbrev pub centralLeftBy : List ℕ → CentralAnswered → CentralLeft
 centralLeftBy c a =
-    centralLeft (verdictNumber (a .answer .verdict)) (a .memory) (kept (a .answer .verdict) (centralNumbers (a .answer .central)) c)
+    centralLeft (a .number) (a .memory) (kept (a .answer .verdict) (centralNumbers (a .answer .central)) c)
 
 unfoldable pub centralTurn : List ℕ → List ℕ → CentralLeft
 centralTurn m c = centralLeftBy c (turnAnswer m (centralLent c))
@@ -46,7 +45,7 @@ turnsLeft n m c out = record { number = n; memory = m; central = c; result = out
 -- the turns made in the first entry; after a refusal "counts are 0"
 abbrev pub turnsLeftBy : List ℕ → List ℕ → TurnsAnswered → TurnsLeft
 turnsLeftBy c out a =
-    turnsLeft (verdictNumber (a .answer .verdict)) (a .memory)
+    turnsLeft (a .number) (a .memory)
     (kept (a .answer .verdict) (centralNumbers (a .answer .central)) c) (sets out 0 (a .answer .turns ∷ []))
 
 unfoldable pub centralTurns : List ℕ → List ℕ → ℕ → List ℕ → TurnsLeft
@@ -66,7 +65,7 @@ resultLeft n m out = record { number = n; memory = m; result = out }
 -- the turns made and the stop from the first entry on; after a refusal "counts are 0"
 abbrev pub programLeft : List ℕ → ProgramAnswered → ResultLeft
 programLeft out a =
-    resultLeft (verdictNumber (a .answer .verdict)) (a .memory) (sets out 0 (a .answer .turns ∷ a .answer .stop ∷ []))
+    resultLeft (a .number) (a .memory) (sets out 0 (a .answer .turns ∷ a .answer .stop ∷ []))
 
 unfoldable pub programRun : List ℕ → List ℕ → ℕ → ℕ → List ℕ → ResultLeft
 programRun m c at n out =

@@ -5,9 +5,8 @@ use Prim.Native.Nat.{ℕ}
 use lib.Dec.{leb}
 use lib.ListN.{length}
 use lib.Seq.{sets}
-use Rattle.base_outcome.specs.Numbers.{verdictNumber}
 use Rattle.whole_verdict.specs.Verdict.{machineVerdict}
-use Rattle.whole_calls.specs.Call.{Left, peripheralTurnAnswer, runAnswer}
+use Rattle.whole_calls.specs.Call.{MachineAnswered, peripheralTurnAnswer, runAnswer}
 use Rattle.whole_calls.specs.declared.call.TurnAnswer.{TurnAnswer}
 use Rattle.whole_calls.specs.declared.call.RunAnswer.{RunAnswer}
 use Rattle.host_answer.specs.Back.{kept, shortNumber}
@@ -24,10 +23,10 @@ pub record MachineLeft : Type 0 where
 abbrev pub machineLeft : ℕ → List ℕ → List ℕ → List ℕ → MachineLeft
 machineLeft n c m r = record { number = n; central = c; peripheral = m; machine = r }
 
-abbrev pub machineLeftBy : List ℕ → Left TurnAnswer → MachineLeft
+abbrev pub machineLeftBy : List ℕ → MachineAnswered TurnAnswer → MachineLeft
 machineLeftBy r a =
-    machineLeft (verdictNumber (a .value .verdict)) (a .central) (a .peripheral)
-    (kept (a .value .verdict) (machineNumbers (a .value .machine)) r)
+    machineLeft (a .number) (a .central) (a .peripheral)
+    (kept (a .answer .verdict) (machineNumbers (a .answer .machine)) r)
 
 unfoldable pub processorTurn : List ℕ → List ℕ → List ℕ → ℕ → MachineLeft
 processorTurn c m r n = machineLeftBy r (peripheralTurnAnswer c m (machineLent r) n)
@@ -44,10 +43,10 @@ abbrev pub runLeft : ℕ → List ℕ → List ℕ → List ℕ → List ℕ →
 runLeft n c m r out = record { number = n; central = c; peripheral = m; machine = r; result = out }
 
 -- the rounds made in the first entry; after a refusal "counts are 0"
-abbrev pub runLeftBy : List ℕ → List ℕ → Left RunAnswer → RunLeft
+abbrev pub runLeftBy : List ℕ → List ℕ → MachineAnswered RunAnswer → RunLeft
 runLeftBy r out a =
-    runLeft (verdictNumber (a .value .verdict)) (a .central) (a .peripheral)
-    (kept (a .value .verdict) (machineNumbers (a .value .machine)) r) (sets out 0 (a .value .rounds ∷ []))
+    runLeft (a .number) (a .central) (a .peripheral)
+    (kept (a .answer .verdict) (machineNumbers (a .answer .machine)) r) (sets out 0 (a .answer .rounds ∷ []))
 
 unfoldable pub machineRun : List ℕ → List ℕ → List ℕ → ℕ → List ℕ → RunLeft
 machineRun c m r n out =

@@ -5,7 +5,6 @@ use Prim.Native.Nat.{ℕ, _*_}
 use lib.Dec.{leb}
 use lib.ListN.{length}
 use lib.Seq.{sets}
-use Rattle.base_outcome.specs.Numbers.{verdictNumber}
 use Rattle.central_record.specs.Record.{hostVerdict}
 use Rattle.shared_calls.specs.Answer.{ScheduleAnswered, scheduleAnswer}
 use Rattle.shared_schedule.specs.Schedule.{scheduleOf}
@@ -18,7 +17,7 @@ use Rattle.host_calls.specs.Central.{ResultLeft, resultLeft}
 -- those of n stints from the first entry on; after a refusal "counts are 0"
 abbrev pub scheduleLeft : List ℕ → ℕ → ScheduleAnswered → ResultLeft
 scheduleLeft out n a =
-    resultLeft (verdictNumber (a .answer .verdict)) (a .memory) (sets out 0 (rows n (stintRow (a .answer .turns) (a .answer .stops))))
+    resultLeft (a .number) (a .memory) (sets out 0 (rows n (stintRow (a .answer .turns) (a .answer .stops))))
 
 unfoldable pub scheduleRun : List ℕ → List ℕ → List ℕ → List ℕ → List ℕ → List ℕ → ResultLeft
 scheduleRun m c jobs js ts out =

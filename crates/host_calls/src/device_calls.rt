@@ -10,6 +10,7 @@ use host_answer::keep::short_number;
 use host_answer::results::keep_taken;
 use host_record::read::channel_lent;
 use peripheral_channel::record::Channel;
+use peripheral_channel::record::channel_fits;
 
 // Puts a word on the channel.
 #[no_mangle]
@@ -39,7 +40,7 @@ pub extern "C" fn tozhenab_drop(channel: &mut [u64]) -> u64
 fn channel_verdict(c: Channel) -> Verdict
     ensures { λ v. ⌜ v ≡ channelVerdict c ⌝ }
 {
-    if 4095 < c.word {
+    if !channel_fits(c) {
         return Verdict::Refused(Refusal::RecordValue);
     }
     Verdict::Accepted

@@ -2,31 +2,24 @@
 use mathlib.Core.Bool.{cond}
 use mathlib.Core.List.{List}
 use Prim.Native.Nat.{ℕ, _+_}
-use lib.Dec.{eqb, ltb}
+use lib.Dec.{ltb}
 use lib.ListN.{length}
 use Rattle.word_fields.specs.Fields.{fromParts}
-use Rattle.base_outcome.specs.Numbers.{refusalNumber}
-use Rattle.base_outcome.specs.declared.refusal.Verdict.{Verdict}
-use Rattle.base_outcome.specs.declared.refusal.Verdict.the-variants as Call
-use Rattle.base_outcome.specs.declared.stop.PeripheralStop.{PeripheralStop}
 use Rattle.base_outcome.specs.declared.stop.PeripheralStop.the-variants as Because
-use Rattle.exchange_jump.specs.Jump.{packageVerdict}
+use Rattle.exchange_jump.specs.Jump.{packageInside, packageClean, fieldInside}
 use Rattle.peripheral_machine.specs.declared.effect.PeripheralEffect.{PeripheralEffect}
 use Rattle.peripheral_machine.specs.declared.effect.PeripheralEffect.the-variants.{ReadCentral, WriteCentral, Exchange, Stop}
 use Rattle.peripheral_machine.specs.declared.numbers.Processor.{Processor}
 use Rattle.peripheral_codes.specs.Addresses.{wordAt, onward}
 
--- "33, 34, 35 for package faults 9, 10, 11", which are all that `packageVerdict` gives
-unfoldable pub faultStop : ℕ → PeripheralStop
-faultStop fault = cond (eqb fault 9) Because.PackagePastEnd (cond (eqb fault 10) Because.StrayBits Because.FieldPastEnd)
-
-abbrev pub exchangeBy : Processor → Verdict → PeripheralEffect
-exchangeBy q Call.Accepted = Exchange (onward (q .p) 1) (q .a) (q .a)
-exchangeBy q (Call.Refused r) = Stop (faultStop (refusalNumber r))
-
--- "26 exchanges at A"; faults "lowest first"
+-- "26 exchanges at A"; "33, 34, 35 for package faults 9, 10, 11", "lowest first": each fault by its own test
 unfoldable pub exchangeOf : List ℕ → Processor → PeripheralEffect
-exchangeOf c q = exchangeBy q (packageVerdict c (q .a))
+exchangeOf c q =
+    cond (packageInside c (q .a))
+    (cond (packageClean c (q .a))
+    (cond (fieldInside c (q .a)) (Exchange (onward (q .p) 1) (q .a) (q .a)) (Stop Because.FieldPastEnd))
+    (Stop Because.StrayBits))
+    (Stop Because.PackagePastEnd)
 
 -- "31 central address of 60 or 62 at or past the end"
 abbrev pub ifInside : List ℕ → ℕ → PeripheralEffect → PeripheralEffect

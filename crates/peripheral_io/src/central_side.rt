@@ -1,39 +1,35 @@
 // Codes 26, 60 and 62.
 ghost use mathlib.Core.Path.{_≡_};
 ghost use Prim.Native.Nat.{_<_};
-ghost use Rattle.peripheral_io.specs.CentralSide.{faultStop, exchangeOf, readCentral, joined, writeCentral};
+ghost use Rattle.peripheral_io.specs.CentralSide.{exchangeOf, readCentral, joined, writeCentral};
 ghost use Rattle.peripheral_codes.specs.Widths.{Memory, Held};
-use base_outcome::refusal::Verdict;
 use base_outcome::stop::PeripheralStop;
-use exchange_jump::jump::package_verdict;
+use exchange_jump::jump::field_inside;
+use exchange_jump::jump::package_is_inside;
+use exchange_package::package::has_stray;
 use peripheral_codes::addresses::onward;
 use peripheral_codes::addresses::read;
 use peripheral_machine::effect::PeripheralEffect;
 use peripheral_machine::numbers::Processor;
 use word_fields::fields::from_parts;
 
-// The stop of a package's fault, by the number of its refusal.
-fn fault_stop(fault: u64) -> PeripheralStop
-    ensures { λ s. ⌜ s ≡ faultStop fault ⌝ }
-{
-    if fault == 9 {
-        return PeripheralStop::PackagePastEnd;
-    }
-    if fault == 10 {
-        return PeripheralStop::StrayBits;
-    }
-    PeripheralStop::FieldPastEnd
-}
-
-// 26.
+// 26. Each fault of the package has its own stop.
 pub fn exchange_of(c: &[u64], q: Processor) -> PeripheralEffect
     requires { ⌜ Held q ⌝ }
     ensures { λ e. ⌜ e ≡ exchangeOf (now (c .entry)) q ⌝ }
 {
-    match package_verdict(c, q.a) {
-        Verdict::Accepted => PeripheralEffect::Exchange(onward(q.p, 1), q.a, q.a as usize),
-        Verdict::Refused(r) => PeripheralEffect::Stop(fault_stop(r.number())),
+    let words = c.len() as u64;
+    if !package_is_inside(words, q.a) {
+        return PeripheralEffect::Stop(PeripheralStop::PackagePastEnd);
     }
+    let package = q.a as usize;
+    if has_stray(c, package) {
+        return PeripheralEffect::Stop(PeripheralStop::StrayBits);
+    }
+    if !field_inside(c, package) {
+        return PeripheralEffect::Stop(PeripheralStop::FieldPastEnd);
+    }
+    PeripheralEffect::Exchange(onward(q.p, 1), q.a, package)
 }
 
 // 60.

@@ -97,7 +97,7 @@ pub fn output_to(s: &[u64; 84], q: Processor, d: u64) -> PeripheralEffect
     requires { ⌜ Held q ⌝ }
     ensures { λ e. ⌜ e ≡ outputTo (now (s .entry)) q d ⌝ }
 {
-    if d < CLOCK {
+    if d < CLOCK { // 72 is not for the clock
         let c = channel_of(s, d as usize);
         return changed(onward(q.p, 1), q.a, d, output(c, low12(q.a)));
     }
@@ -128,7 +128,7 @@ pub fn change_on(m: &[u16], s: &[u64; 84], q: Processor, k: u64, d: u64) -> Peri
     requires { ⌜ (4 ≤ k) × (k < 8) ⌝ }
     ensures { λ e. ⌜ e ≡ changeOn (now (m .entry)) (now (s .entry)) q k d ⌝ }
 {
-    if d < CLOCK {
+    if d < CLOCK { // 74 to 77 are not for the clock
         return change_of(m, channel_of(s, d as usize), q, k, d);
     }
     PeripheralEffect::Stop(PeripheralStop::NoChannel)

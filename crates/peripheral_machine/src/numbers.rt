@@ -86,7 +86,7 @@ pub fn central_of(x: &[u64; 24], s: &[u64; 84]) -> Central
 pub fn central_p(s: &[u64; 84]) -> u64
     ensures { λ p. ⌜ p ≡ centralP (now (s .entry)) ⌝ }
 {
-    s[78]
+    s[78] // the central P
 }
 
 pub fn clock(s: &[u64; 84]) -> u64

@@ -3,6 +3,7 @@ use mathlib.Core.List.{List, [], _++_}
 use mathlib.Core.Path.{_≡_}
 use Prim.Native.Nat.{ℕ, _-_, _≤_}
 use lib.ListN.{length, replicate}
+use Rattle.base_outcome.specs.Numbers.{verdictNumber}
 use Rattle.base_outcome.specs.declared.refusal.Verdict.the-variants as Call
 use Rattle.base_outcome.specs.declared.refusal.Verdict.{Verdict}
 use Rattle.central_record.specs.declared.record.Central.{Central}
@@ -34,13 +35,14 @@ abbrev pub inArrays : ScheduleEnd → StintsMemory
 inArrays o =
     stintsTo (o .memory) (record { central = o .central; turns = padded (o .turns); stops = padded (o .stops) })
 
--- the memory, and the verdict with the record and the results of the stints
+-- what the host gets back: the memory, the verdict's number, and the verdict with the record and the results of the stints
 pub record ScheduleAnswered : Type 0 where
   pub memory : List ℕ
+  pub number : ℕ
   pub answer : ScheduleAnswer
 
 abbrev pub scheduleAnswerTo : List ℕ → ScheduleAnswer → ScheduleAnswered
-scheduleAnswerTo m o = record { memory = m; answer = o }
+scheduleAnswerTo m o = record { memory = m; number = verdictNumber (o .verdict); answer = o }
 
 -- "A call that meets none of these conditions is carried out. After a refusal the state comes back equal, counts are 0."
 abbrev pub scheduleAnswerBy : Verdict → Schedule → ScheduleAnswered

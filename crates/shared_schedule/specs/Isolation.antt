@@ -1,6 +1,6 @@
--- Demand 3, in the order of document 01, "Words of demand 3". Laws.Isolation proves it. Five quotes are the words of demand 3
--- itself, as the product states it, and not document 01's: at `StopsInLastOnly`, the first at `Alike`, at `EndsAlike`, the first at
--- `Isolation`, and at `RestKept`.
+-- Demand 3, as it stands in the demands, document 00, with the words that document 01 fixes under "Words of demand 3". Each definition
+-- quotes the clause that it states: of the demand at `Alike`, `StopsInLastOnly`, `EndsAlike`, `Isolation` and `RestKept`, else of
+-- document 01. Laws.Isolation proves it.
 use mathlib.Core.Bool.{cond}
 use mathlib.Core.List.{List, [], _∷_}
 use mathlib.Core.Logic.{_⊎_}
@@ -76,26 +76,28 @@ NoneButLast [] = Unit {0}
 NoneButLast (x ∷ []) = Unit {0}
 NoneButLast (x ∷ y ∷ xs) = (x ≡ 0) × NoneButLast (y ∷ xs)
 
--- "stopping in no stint but its last"
+-- "let it stop in no stint but its last in either": here of one schedule, and `Isolation` asks it of both
 abbrev pub StopsInLastOnly : Schedule → ℕ → Type 0
 StopsInLastOnly s i = NoneButLast (ofJob i (s .stintJobs) (scheduleEnd s .stops))
 
--- "a program alike in package, field and turns asked": "Two packages are alike where they hold the same sixteen words in the same order,
--- two fields where they hold the same words in the same order."
+-- "Let them be alike in its package and its field at the start and in the sum of the central turns that its stints ask". Document 01: "Two
+-- packages are alike where they hold the same sixteen words in the same order, two fields where they hold the same words in the same order."
 pub record Alike (s : Schedule) (i : ℕ) (s′ : Schedule) (i′ : ℕ) : Type 0 where
   pub packages : packageIn s i (start s) ≡ packageIn s′ i′ (start s′)
   pub fields : fieldIn s i (start s) ≡ fieldIn s′ i′ (start s′)
   pub asked : turnsAsked s i ≡ turnsAsked s′ i′
 
--- "ends alike": in its package, its field, the turns it made and its stop or none
+-- "both end alike in its package, its field, the sum of the turns it made and its stop or none"
 pub record EndsAlike (s : Schedule) (i : ℕ) (s′ : Schedule) (i′ : ℕ) : Type 0 where
   pub packages : packageIn s i (end s) ≡ packageIn s′ i′ (end s′)
   pub fields : fieldIn s i (end s) ≡ fieldIn s′ i′ (end s′)
   pub made : turnsMade s i ≡ turnsMade s′ i′
   pub stop : stopOf s i ≡ stopOf s′ i′
 
--- "in any two accepted schedules a program alike in package, field and turns asked (and stopping in no stint but its last) ends alike,
--- whatever its neighbours are". "The two schedules may differ in all that is not named as alike".
+-- "Take any two accepted schedules, each with any list of stints, and a program that is a job in both." i is its number in one, i′ in the
+-- other. The two may differ in all else: "whatever the number and size of its stints, whatever the order in which all stints stand, whatever
+-- the other programs' packages, fields and stints are and whatever any other word holds". Document 01: "The two schedules may differ in all
+-- that is not named as alike, even in the length of memory, the central record, the package's address and the job's number."
 abbrev pub Isolation : Type 0
 Isolation =
     (s s′ : Schedule) → ScheduleAccepted s → ScheduleAccepted s′
@@ -111,7 +113,8 @@ pub record Outside (m : List ℕ) (at x : ℕ) : Type 0 where
 abbrev pub OutsideJobs : Schedule → ℕ → Type 0
 OutsideJobs s x = (i : ℕ) → i < length (s .jobs) → Outside (start s) (packageAddress s i) x
 
--- "and no word outside the listed packages and fields changes"; memory keeps its length
+-- "And in every accepted schedule each word outside the listed packages and fields holds at the end exactly what it held at the start."
+-- Memory keeps its length, too.
 abbrev pub RestKept : Type 0
 RestKept =
     (s : Schedule) → ScheduleAccepted s

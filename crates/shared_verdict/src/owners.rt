@@ -122,10 +122,12 @@ pub(crate) fn owners_verdict(m: &[u64], jobs: &[u64]) -> Verdict
     if !packages_inside(m, jobs) {
         return Verdict::Refused(Refusal::PackagePastEnd);
     }
-    if !packages_clean(m, jobs) {
+    let clean = packages_clean(m, jobs);
+    let inside = fields_inside(m, jobs);
+    if !clean {
         return Verdict::Refused(Refusal::StrayBits);
     }
-    if !fields_inside(m, jobs) {
+    if !inside {
         return Verdict::Refused(Refusal::FieldPastEnd);
     }
     if !all_apart(m, jobs) {

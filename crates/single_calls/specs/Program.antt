@@ -2,6 +2,7 @@
 use mathlib.Core.Bool.{cond}
 use mathlib.Core.List.{List}
 use Prim.Native.Nat.{ℕ}
+use Rattle.base_outcome.specs.Numbers.{verdictNumber}
 use Rattle.base_outcome.specs.declared.refusal.Refusal.the-variants as Refusal
 use Rattle.base_outcome.specs.declared.refusal.Verdict.the-variants as Call
 use Rattle.base_outcome.specs.declared.refusal.Verdict.{Verdict}
@@ -26,13 +27,14 @@ ownerVerdict m at = orElse (packageVerdict m at) (overlapVerdict m at)
 unfoldable pub programVerdict : List ℕ → Central → ℕ → ℕ → Verdict
 programVerdict m c at n = orElse (turnsVerdict m c n) (ownerVerdict m at)
 
--- the memory, and the verdict with record, turns made and stop
+-- what the host gets back: the memory, the verdict's number, and the verdict with the record, the turns made and the stop
 pub record ProgramAnswered : Type 0 where
   pub memory : List ℕ
+  pub number : ℕ
   pub answer : ProgramAnswer
 
 abbrev pub programAnswerTo : List ℕ → ProgramAnswer → ProgramAnswered
-programAnswerTo m o = record { memory = m; answer = o }
+programAnswerTo m o = record { memory = m; number = verdictNumber (o .verdict); answer = o }
 
 -- "After a refusal the state comes back equal, counts are 0."
 abbrev pub programAnswerBy : Verdict → List ℕ → Central → StintMemory → ProgramAnswered

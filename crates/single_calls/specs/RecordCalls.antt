@@ -3,6 +3,7 @@ use mathlib.Core.Bool.{cond}
 use mathlib.Core.List.{List}
 use Prim.Native.Nat.{ℕ}
 use lib.Dec.{eqb}
+use Rattle.base_outcome.specs.Numbers.{verdictNumber}
 use Rattle.base_outcome.specs.declared.refusal.Verdict.the-variants as Call
 use Rattle.base_outcome.specs.declared.refusal.Verdict.{Verdict}
 use Rattle.central_apply.specs.State.{state}
@@ -35,13 +36,14 @@ turnedOnce m c =
     cond (eqb (c .stop) 0) (centralAfterTurn m c (turnOf (boundsOf c) (c .p) (state (c .registers) (part m (c .ra) (c .fl)))))
     (centralMachine m c)
 
--- what the host gets back: the memory, and the verdict with the record
+-- what the host gets back: the memory, the verdict's number, and the verdict with the record
 pub record CentralAnswered : Type 0 where
   pub memory : List ℕ
+  pub number : ℕ
   pub answer : Answer
 
 abbrev pub centralAnswerTo : List ℕ → Answer → CentralAnswered
-centralAnswerTo m o = record { memory = m; answer = o }
+centralAnswerTo m o = record { memory = m; number = verdictNumber (o .verdict); answer = o }
 
 abbrev pub centralAnswered : Verdict → CentralMachine → CentralAnswered
 centralAnswered v h = centralAnswerTo (h .memory) (record { verdict = v; central = h .central })

@@ -3,6 +3,7 @@ use mathlib.Core.Bool.{cond}
 use mathlib.Core.List.{List}
 use Prim.Native.Nat.{ℕ, zero, suc, _+_}
 use lib.Dec.{eqb, ltb}
+use Rattle.base_outcome.specs.Numbers.{verdictNumber}
 use Rattle.base_outcome.specs.declared.refusal.Refusal.the-variants as Refusal
 use Rattle.base_outcome.specs.declared.refusal.Verdict.the-variants as Call
 use Rattle.base_outcome.specs.declared.refusal.Verdict.{Verdict}
@@ -39,13 +40,14 @@ mostTurns = 65535
 unfoldable pub turnsVerdict : List ℕ → Central → ℕ → Verdict
 turnsVerdict m c n = orElse (hostVerdict m c) (cond (ltb mostTurns n) (Call.Refused Refusal.TooManyTurns) Call.Accepted)
 
--- what the host gets back: the memory, and the verdict with the record and the turns made
+-- what the host gets back: the memory, the verdict's number, and the verdict with the record and the turns made
 pub record TurnsAnswered : Type 0 where
   pub memory : List ℕ
+  pub number : ℕ
   pub answer : TurnsAnswer
 
 abbrev pub turnsAnswerTo : List ℕ → TurnsAnswer → TurnsAnswered
-turnsAnswerTo m o = record { memory = m; answer = o }
+turnsAnswerTo m o = record { memory = m; number = verdictNumber (o .verdict); answer = o }
 
 abbrev pub turnsAnswered : Verdict → Turned → TurnsAnswered
 turnsAnswered v o =

@@ -34,7 +34,7 @@ fn read_all(
             };
         }
         let n = io::count(got, &buffer);
-        r = feed(
+        let fed = feed(
             r,
             &buffer[..n],
             &mut *memory,
@@ -42,6 +42,7 @@ fn read_all(
             &mut *stint_jobs,
             &mut *stint_turns,
         );
+        r = fed.reader;
         left = left - 1;
     }
     Source {
@@ -65,7 +66,8 @@ fn write_answer(
                 io::write_all(2, b"tozhenab: the answer cannot be written\n");
             }
         }
-        Output::TooShort => {}
+        // Of slices with the lengths that `main` gives them, no number refuses one.
+        Output::Refused(_) => {}
     }
 }
 

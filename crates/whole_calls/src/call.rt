@@ -5,7 +5,7 @@ ghost use Rattle.whole_record.specs.Numbers.{machineOf};
 ghost use Rattle.whole_verdict.specs.Verdict.{processorsIn, turnVerdict, runVerdict};
 ghost use Rattle.whole_rounds.specs.Rounds.{roundsOf};
 ghost use Rattle.whole_processors.specs.Processors.{processorTurned};
-ghost use Rattle.whole_calls.specs.Call.{left, leftBy, leftAfter, peripheralTurnAnswer, runAnswer};
+ghost use Rattle.whole_calls.specs.Call.{left, leftBy, leftAfter, turnAnswerTo, peripheralTurnAnswer, runAnswerTo, runAnswer};
 use base_outcome::refusal::Verdict;
 use whole_processors::processors::processors_turn;
 use whole_record::numbers::numbers_of;
@@ -53,7 +53,7 @@ pub fn peripheral_turn(
     machine: MachineRecord,
     processor: u64,
 ) -> TurnAnswer
-    ensures { λ o. ⌜ left (now (central .exit)) (now (peripheral .exit)) o
+    ensures { λ o. ⌜ turnAnswerTo (now (central .exit)) (now (peripheral .exit)) o
         ≡ peripheralTurnAnswer (now (central .entry)) (now (peripheral .entry)) machine processor ⌝ }
 {
     match turn_verdict(&*central, &*peripheral, machine, processor) {
@@ -96,7 +96,7 @@ pub fn run(
     machine: MachineRecord,
     rounds: u64,
 ) -> RunAnswer
-    ensures { λ o. ⌜ left (now (central .exit)) (now (peripheral .exit)) o
+    ensures { λ o. ⌜ runAnswerTo (now (central .exit)) (now (peripheral .exit)) o
         ≡ runAnswer (now (central .entry)) (now (peripheral .entry)) machine rounds ⌝ }
 {
     match run_verdict(&*central, &*peripheral, machine, rounds) {

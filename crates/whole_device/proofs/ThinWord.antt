@@ -1,4 +1,4 @@
--- fn f(c: &mut T, n: u64) -> P { let r = g(*c, n); *c = r.channel; r.verdict }
+-- fn f(c: &mut T, n: u64) -> P { let before = *c; let r = g(before, n); *c = r.channel; r.verdict }
 -- Where g's `ensures` is R, and R gives Q at the answer's two fields, f meets the contract whose `ensures` is Q. Assumes `Given`.
 use mathlib.Core.Path.{_≡_, refl, ap}
 use Prim.Native.Nat.{ℕ}
@@ -76,14 +76,14 @@ module _ (K : Thin) where
             local (K .p-type) valueLocal
             ∷ local (tyRef (named 0) mut (K .bare)) valueLocal
             ∷ local (tyInt w64) valueLocal
-            ∷ local (s-type K) valueLocal
             ∷ local (t-type K) valueLocal
+            ∷ local (s-type K) valueLocal
             ∷ [];
         body =
-            seq (assign (place 4 []) (rvOpd (copy (place 1 (deref (t-type K) ∷ [])))))
-            (seq (call g (copy (place 4 []) ∷ copy (place 2 []) ∷ []) (place 3 []))
-            (seq (assign (place 1 (deref (t-type K) ∷ [])) (rvOpd (copy (place 3 (field 1 ∷ [])))))
-            (seq (assign (place 0 []) (rvOpd (copy (place 3 (field 0 ∷ []))))) return)));
+            seq (assign (place 3 []) (rvOpd (copy (place 1 (deref (t-type K) ∷ [])))))
+            (seq (call g (copy (place 3 []) ∷ copy (place 2 []) ∷ []) (place 4 []))
+            (seq (assign (place 1 (deref (t-type K) ∷ [])) (rvOpd (copy (place 4 (field 1 ∷ [])))))
+            (seq (assign (place 0 []) (rvOpd (copy (place 4 (field 0 ∷ []))))) return)));
       }
 
   module _ {M : Type 1} (𝓤 : URA M) where
@@ -167,25 +167,25 @@ module _ (K : Thin) (R : K .T .D → ℕ → K .S .Denot → Type 0) (Q : K .T .
               spelt ! (t-row K) (Is (t-row K)) (shows 𝓤 H A (t-row K)) (t-vals K) (LL.tells (K .T) (K .laws)) fullShare h vs b o $
               move ! (1 ∷ []) $ peeks ! (t-row K) (Is (t-row K)) (shows 𝓤 H A (t-row K)) h (t-vals K h) (λ is.
               move ! (1 ∷ 0 ∷ []) $
-              -- [the record's cell; what it owns; the open borrow; obs; auth; the copy; ..; the answer; ..; n; ..; the reference; ..; room for _0; ..]
+              -- [the record's cell; what it owns; the open borrow; obs; auth; the answer; ..; the copy; ..; n; ..; the reference; ..; room for _0; ..]
               -- the record is copied
               assigns ! (of-opd ! (load ! (from ! (hop ! (look ! 11 refl) (stop !))) (look-raw ! 0 refl))) (from ! (stop !))
-              (init ! 5 refl (t-typed K 𝓤 H A W h is)) $
+              (init ! 7 refl (t-typed K 𝓤 H A W h is)) $
               -- g is called
               nothing ! $ use1 W (raw (Value .pre to-value)) (goes-in n-is is) $
               calls-at ! fm Value known to-value
-              (and-then ! (load ! (from ! (stop !)) (look ! 6 refl)) (and-then ! (load ! (from ! (stop !)) (look ! 10 refl)) (no-more !))) (λ v.
+              (and-then ! (load ! (from ! (stop !)) (look ! 8 refl)) (and-then ! (load ! (from ! (stop !)) (look ! 10 refl)) (no-more !))) (λ v.
               use1 W (later (some (λ (r : K .S .Denot). (‵ ftrue ⊛ ‵ (K .S .own r (v ∷ []))) ⊛ raw (Ensured r)))) (id⊢ 𝓤 _) $
               await ! tt $ pick ! (λ r. split ! $ move ! (1 ∷ []) $
               use1 W (raw (fact 𝓤 (R h n r))) (comes-out r) $ heard ! (R h n r) (λ e. split ! $ drop ! $
               peeks ! (K .S) (Is (K .S)) (shows 𝓤 H A (K .S)) r (v ∷ []) (λ s-is.
-              land ! (from ! (stop !)) (init ! 8 refl (s-typed K 𝓤 H A W r v s-is)) $
-              rewrite ! 8 (λ (u : Val). ‵ (fat fullShare (s-type K) l₃ 0 u)) (ap only (K .knows r _ s-is .0)) refl $ drop ! $
+              land ! (from ! (stop !)) (init ! 6 refl (s-typed K 𝓤 H A W r v s-is)) $
+              rewrite ! 6 (λ (u : Val). ‵ (fat fullShare (s-type K) l₄ 0 u)) (ap only (K .knows r _ s-is .0)) refl $ drop ! $
               -- the answer's record is stored behind the reference
-              assigns ! (of-opd ! (load ! (from ! (fld ! refl (stop !))) (look-in ! 7 (sub ! 1 refl (whole !)))))
+              assigns ! (of-opd ! (load ! (from ! (fld ! refl (stop !))) (look-in ! 5 (sub ! 1 refl (whole !)))))
               (from ! (hop ! (look ! 11 refl) (stop !))) (store-raw ! 0 refl (t-typed K 𝓤 H A W (K .channel r) (K .knows r _ s-is .1 .1))) $
               -- its verdict is the result
-              assigns ! (of-opd ! (load ! (from ! (fld ! refl (stop !))) (look-in ! 7 (sub ! 0 refl (whole !))))) (from ! (stop !))
+              assigns ! (of-opd ! (load ! (from ! (fld ! refl (stop !))) (look-in ! 5 (sub ! 0 refl (whole !))))) (from ! (stop !))
               (init ! 13 refl (K .typed 𝓤 H A W (K .verdict r) (K .knows r _ s-is .1 .0))) $
               -- the reference is closed
               move ! (1 ∷ []) $ drop ! $

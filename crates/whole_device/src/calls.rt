@@ -2,8 +2,9 @@
 use base_outcome::refusal::Refusal;
 use base_outcome::refusal::Verdict;
 use peripheral_channel::record::Channel;
+use peripheral_channel::record::channel_fits;
 ghost use mathlib.Core.Path.{_≡_};
-ghost use Rattle.whole_device.specs.Device.{putOf, takeOf, dropOf, takenNumber, Puts, Takes, Drops};
+ghost use Rattle.whole_device.specs.Device.{takenNumber, deviceAnswerTo, takeAnswerTo, putOf, takeOf, dropOf, Puts, Takes, Drops};
 
 // What becomes of a take.
 pub enum Taken {
@@ -38,9 +39,9 @@ pub struct TakeAnswer {
 
 // A put of a word on a channel by value.
 pub fn put_value(c: Channel, word: u64) -> DeviceAnswer
-    ensures { λ r. ⌜ r ≡ putOf c word ⌝ }
+    ensures { λ r. ⌜ deviceAnswerTo r ≡ putOf c word ⌝ }
 {
-    if 4095 < c.word {
+    if !channel_fits(c) {
         return DeviceAnswer {
             verdict: Verdict::Refused(Refusal::RecordValue),
             channel: c,
@@ -76,9 +77,9 @@ pub fn put_value(c: Channel, word: u64) -> DeviceAnswer
 
 // A take from a channel by value.
 pub fn take_value(c: Channel) -> TakeAnswer
-    ensures { λ r. ⌜ r ≡ takeOf c ⌝ }
+    ensures { λ r. ⌜ takeAnswerTo r ≡ takeOf c ⌝ }
 {
-    if 4095 < c.word {
+    if !channel_fits(c) {
         return TakeAnswer {
             verdict: Taken::Refused(Refusal::RecordValue),
             channel: c,
@@ -107,9 +108,9 @@ pub fn take_value(c: Channel) -> TakeAnswer
 
 // A drop of a channel by value.
 pub fn drop_value(c: Channel) -> DeviceAnswer
-    ensures { λ r. ⌜ r ≡ dropOf c ⌝ }
+    ensures { λ r. ⌜ deviceAnswerTo r ≡ dropOf c ⌝ }
 {
-    if 4095 < c.word {
+    if !channel_fits(c) {
         return DeviceAnswer {
             verdict: Verdict::Refused(Refusal::RecordValue),
             channel: c,
@@ -131,25 +132,28 @@ pub fn drop_value(c: Channel) -> DeviceAnswer
 pub fn put(c: &mut Channel, word: u64) -> Verdict
     ensures { λ r. ⌜ Puts (now (c .entry)) word r (now (c .exit)) ⌝ }
 {
-    let r = put_value(*c, word);
-    *c = r.channel;
-    r.verdict
+    let before = *c;
+    let after_put = put_value(before, word);
+    *c = after_put.channel;
+    after_put.verdict
 }
 
 // Takes the word or function from the channel that the host lends.
 pub fn take(c: &mut Channel) -> Taken
     ensures { λ r. ⌜ Takes (now (c .entry)) r (now (c .exit)) ⌝ }
 {
-    let r = take_value(*c);
-    *c = r.channel;
-    r.verdict
+    let before = *c;
+    let after_take = take_value(before);
+    *c = after_take.channel;
+    after_take.verdict
 }
 
 // Makes the channel that the host lends inactive and empty.
 pub fn drop(c: &mut Channel) -> Verdict
     ensures { λ r. ⌜ Drops (now (c .entry)) r (now (c .exit)) ⌝ }
 {
-    let r = drop_value(*c);
-    *c = r.channel;
-    r.verdict
+    let before = *c;
+    let after_drop = drop_value(before);
+    *c = after_drop.channel;
+    after_drop.verdict
 }

@@ -6,6 +6,7 @@ use Prim.Native.Nat.{ℕ, _^_}
 use lib.Dec.{ltb}
 use lib.ListN.{getD}
 use Rattle.peripheral_channel.specs.Codes.{disconnected}
+use Rattle.peripheral_channel.specs.Fits.{channelFits}
 use Rattle.peripheral_channel.specs.declared.record.Channel.{Channel}
 use Rattle.base_lists.specs.Indexed.{allBelow}
 use Rattle.central_record.specs.Record.{recordFits}
@@ -33,9 +34,8 @@ processorFitsAt l n = processorFits (processorAt l n)
 unfoldable pub processorsFit : List Processor → Bool
 processorsFit l = allBelow 10 (processorFitsAt l)
 
--- "Channels 00 to 13 have: active, full, a function mark, a 12-bit word."
 abbrev pub channelFitsAt : List Channel → ℕ → Bool
-channelFitsAt l i = ltb (channelAt l i .word) (2 ^ 12)
+channelFitsAt l i = channelFits (channelAt l i)
 
 unfoldable pub channelsFit : List Channel → Bool
 channelsFit l = allBelow 12 (channelFitsAt l)

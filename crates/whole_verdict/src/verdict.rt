@@ -8,6 +8,7 @@ use central_record::record::length_fits;
 use central_record::record::record_fits;
 use central_record::record::words_fit;
 use peripheral_channel::record::Channel;
+use peripheral_channel::record::channel_fits;
 use peripheral_machine::numbers::Processor;
 use whole_record::record::MachineRecord;
 
@@ -51,7 +52,7 @@ fn channels_fit(channels: [Channel; 12]) -> bool
     let mut i: usize = 0;
     while i < 12 {
         let c = channels[i];
-        if 4095 < c.word {
+        if !channel_fits(c) {
             return false;
         }
         i = i + 1;

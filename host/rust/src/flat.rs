@@ -1,9 +1,12 @@
 //! The calls over slices of numbers, as `tozhenab.h` describes them.
 //!
 //! Each gives the number of the refusal, or 0. Records are slices of [`CENTRAL_NUMBERS`],
-//! [`MACHINE_NUMBERS`] or [`CHANNEL_NUMBERS`]; one of another length is number 5. A result slice
-//! that is too short is number 6 and keeps its values. After any other refusal the result is 0
-//! throughout; what stands past the result keeps its values always.
+//! [`MACHINE_NUMBERS`] or [`CHANNEL_NUMBERS`]. Slices of a wrong length have one rule: a memory is
+//! number 1 or 2, a record 5, any list or result 6.
+//!
+//! A result slice may be longer than the result; its other elements keep their values. After a
+//! refusal a result of counts (turns, stops, rounds) is 0 throughout, and that of [`take`] is as it
+//! was. A result slice that is too short is as it was after any refusal.
 //!
 //! [`CENTRAL_NUMBERS`]: crate::layout::CENTRAL_NUMBERS
 //! [`MACHINE_NUMBERS`]: crate::layout::MACHINE_NUMBERS
@@ -248,7 +251,8 @@ pub fn put(channel: &mut [u64], word: u64) -> u64 {
     unsafe { archive::tozhenab_put(channel.as_mut_ptr(), channel.len(), word) }
 }
 
-/// A device takes the word of a channel; the result is the word and its mark. Refusals 5, 6, 15.
+/// A device takes the word of a channel; the result is the word and its mark, and a refusal leaves
+/// it as it was. Refusals 5, 6, 15.
 pub fn take(channel: &mut [u64], result: &mut [u64]) -> u64 {
     // SAFETY: the pointers are those of exclusive slices, each with its length.
     unsafe {

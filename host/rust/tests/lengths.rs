@@ -196,7 +196,7 @@ fn what_stands_past_a_result_is_kept() {
 }
 
 #[test]
-fn a_result_is_0_after_a_refusal() {
+fn a_result_of_counts_is_0_after_a_refusal() {
     let record = [0; CENTRAL_NUMBERS];
     assert_result(8, [0], |out| {
         flat::central_turns(&mut memory(), &mut [0; CENTRAL_NUMBERS], 65_536, out)
@@ -207,9 +207,20 @@ fn a_result_is_0_after_a_refusal() {
     assert_result(6, [0, 0, 0, 0], |out| {
         flat::schedule(&mut memory(), &record, &[0], &[0, 0], &[1], out)
     });
-    assert_result(15, [0, 0], |out| flat::take(&mut [0; CHANNEL_NUMBERS], out));
     let mut machine = [0; MACHINE_NUMBERS];
     assert_result(8, [0], |out| {
         flat::run(&mut memory(), &mut [0; 4096], &mut machine, 65_536, out)
     });
+}
+
+#[test]
+fn the_result_of_a_refused_take_is_kept() {
+    for length in 2..8 {
+        let result = vec![KEPT; length];
+        assert_kept(15, &[0; CHANNEL_NUMBERS], &result, flat::take);
+        assert_kept(15, &[1, 0, 0, 0], &result, flat::take);
+        assert_kept(5, &[1, 1, 0, 4096], &result, flat::take);
+        assert_kept(5, &[1, 2, 0, 7], &result, flat::take);
+        assert_kept(5, &[1, 1, 0], &result, flat::take);
+    }
 }

@@ -110,6 +110,12 @@ impl Call {
             _ => 0,
         }
     }
+
+    /// Whether its result holds counts, which are 0 after a refusal. What a take gives are none: its
+    /// result is left as it was.
+    pub fn gives_counts(&self) -> bool {
+        !matches!(self, Call::Take)
+    }
 }
 
 /// What the host lends; memories that the call does not take are empty.

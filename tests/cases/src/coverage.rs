@@ -1,21 +1,24 @@
 //! Counts of what the cases met, and what has to be met.
 //!
 //! Refusals and stops are counted by what a call gave. Codes are counted in the turns of
-//! `central_turn` and `peripheral_turn` alone, from the state before the turn: the first
-//! instruction of the word at P, and those after it as long as nothing before them can have ended
-//! the turn.
+//! `central_turn` and `peripheral_turn` alone, from the state before the turn: of a central word the
+//! first instruction, and those after it as long as nothing before them can have ended the turn; of
+//! a peripheral processor the instruction at P, with its A, its words and its channel. What a run
+//! began with is counted from the state before it too.
 
 use crate::case::{Call, Case, Lent, NAMES, REFUSALS};
 use std::fmt;
 use tozhenab::layout::{self, PROCESSORS, PROCESSOR_STOP, STOP};
 
-mod codes;
+mod central_codes;
 mod conditions;
 mod facts;
+mod peripheral_codes;
 mod table;
 
-use codes::Codes;
-use conditions::CONDITIONS;
+use central_codes::CentralCodes;
+use conditions::conditions;
+use peripheral_codes::PeripheralCodes;
 
 /// Central stops, then peripheral ones.
 const STOPS: [u64; 11] = [1, 2, 3, 4, 5, 31, 32, 33, 34, 35, 36];
@@ -35,9 +38,10 @@ pub struct Coverage {
     lowest_first: [u64; NAMES.len()],
     /// By call and place in `STOPS`.
     stops: [[u64; STOPS.len()]; NAMES.len()],
-    codes: Codes,
-    /// By place in `CONDITIONS`.
-    conditions: [u64; CONDITIONS.len()],
+    central: CentralCodes,
+    peripheral: PeripheralCodes,
+    /// In the order of `conditions`.
+    conditions: Vec<u64>,
 }
 
 /// The places in `STOPS` that a call can give.
@@ -56,8 +60,9 @@ impl Coverage {
             numbers: [[0; 16]; NAMES.len()],
             lowest_first: [0; NAMES.len()],
             stops: [[0; STOPS.len()]; NAMES.len()],
-            codes: Codes::new(),
-            conditions: [0; CONDITIONS.len()],
+            central: CentralCodes::new(),
+            peripheral: PeripheralCodes::new(),
+            conditions: conditions().map(|_| 0).collect(),
         }
     }
 
@@ -65,12 +70,13 @@ impl Coverage {
     pub fn count(&mut self, seen: &Seen) {
         let call = seen.case.call.place();
         self.numbers[call][seen.number as usize & 15] += 1;
-        for (count, (_, holds)) in self.conditions.iter_mut().zip(CONDITIONS) {
+        for (count, (_, holds)) in self.conditions.iter_mut().zip(conditions()) {
             *count += u64::from(holds(seen));
         }
         if seen.number == 0 {
             self.count_stops(seen);
-            self.codes.count(seen);
+            self.central.count(seen);
+            self.peripheral.count(seen);
         } else if seen.case.faults.iter().any(|&fault| fault > seen.number) {
             self.lowest_first[call] += 1;
         }
@@ -116,6 +122,15 @@ impl Coverage {
         missing
     }
 
+    /// What was met least often of all that has to be, and how often.
+    pub fn rarest(&self, most: usize) -> Vec<(u64, String)> {
+        let mut counts = Vec::new();
+        self.required(&mut |name, count| counts.push((count, name.to_string())));
+        counts.sort();
+        counts.truncate(most);
+        counts
+    }
+
     /// How much was met of what has to be, each thing up to `enough` times.
     pub fn met(&self, enough: u64) -> u64 {
         let mut met = 0;
@@ -141,10 +156,11 @@ impl Coverage {
                 );
             }
         }
-        for (&count, (name, _)) in self.conditions.iter().zip(CONDITIONS) {
+        for (&count, (name, _)) in self.conditions.iter().zip(conditions()) {
             see(format_args!("{name}"), count);
         }
-        self.codes.required(see);
+        self.central.required(see);
+        self.peripheral.required(see);
     }
 }
 

@@ -1,5 +1,6 @@
 //! The exchange package that holds the registers of a central record.
 
+use crate::values::ONES_18;
 use tozhenab::layout::{A, B, EM, FL, P, RA, X};
 
 /// Words of a package.
@@ -31,4 +32,15 @@ pub fn stray_bits(n: usize) -> u64 {
         _ => AB,
     };
     ((1 << 60) - 1) & !used
+}
+
+/// Whether the package at an address is in memory, has no stray bit and names a field in memory.
+pub fn is_sound(memory: &[u64], address: u64) -> bool {
+    let length = memory.len() as u64;
+    if address + WORDS as u64 > length {
+        return false;
+    }
+    let package = &memory[address as usize..][..WORDS];
+    let high = |n: usize| package[n] >> HIGH & ONES_18;
+    (0..8).all(|n| package[n] & stray_bits(n) == 0) && high(1) + high(2) <= length
 }

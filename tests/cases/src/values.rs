@@ -23,7 +23,7 @@ const EDGES_18: [u64; 14] = [
     0o777776, 0o777777,
 ];
 
-const EDGES_12: [u64; 6] = [0, 1, 0o3777, 0o4000, 0o7776, 0o7777];
+pub const EDGES_12: [u64; 6] = [0, 1, 0o3777, 0o4000, 0o7776, 0o7777];
 
 /// Top 12 bits of infinite, indefinite and ordinary floating words.
 const TOPS: [u64; 10] = [

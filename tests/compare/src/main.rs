@@ -28,6 +28,9 @@ use std::time::Instant;
 const SEED: u64 = 1;
 const CASES: u64 = 1_000_000;
 
+/// Of what was met, so many are named that were met least often.
+const RAREST: usize = 8;
+
 /// Differences after which the comparison ends.
 const MOST_DIFFERENCES: usize = 5;
 
@@ -85,6 +88,10 @@ fn compare(seed: u64, cases: u64) -> bool {
         });
     }
     print!("{coverage}");
+    println!("\nrarest of all that has to be met");
+    for (count, name) in coverage.rarest(RAREST) {
+        println!("{count:>8}  {name}");
+    }
     println!(
         "\nseed {seed}: {cases} cases, {differences} different, {} s",
         begin.elapsed().as_secs()

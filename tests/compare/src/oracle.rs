@@ -2,7 +2,8 @@
 //!
 //! Its calls take records with fields and give results by value. What only the C functions have, a
 //! record of another length and a result slice that is too short, is decided here by what the
-//! second emulator says of the rest.
+//! second emulator says of the rest. So is what a result slice holds after a refusal: 0 where it has
+//! room for counts, else what it held before.
 
 use crate::record::{self, Parts};
 use cases::{Call, Lent, MOST_TURNS};
@@ -20,7 +21,7 @@ const LANDED: Requests = Requests {
 pub fn call(call: &Call, lent: &mut Lent) -> u64 {
     let needed = call.result_length();
     let room = lent.result.len() >= needed;
-    if room {
+    if room && call.gives_counts() {
         lent.result[..needed].fill(0);
     }
     match carry_out(call, lent, room) {
@@ -53,7 +54,7 @@ fn central_call(call: &Call, lent: &mut Lent) -> Result<(), u8> {
     let mut central = central_of(&lent.record);
     match call {
         Call::Exchange { address } => {
-            second::central_exchange(&LANDED, &mut lent.memory, &mut [], &mut central, *address)?
+            second::central_exchange(&LANDED, &mut lent.memory, &[], &mut central, *address)?
         }
         _ => second::central_turn(&LANDED, &mut lent.memory, &mut [], &mut central)?,
     }

@@ -73,14 +73,14 @@ impl Pair {
     }
 }
 
-/// After a refusal all is as it was, but for a result with room, which is 0.
+/// After a refusal all is as it was, but for counts in a result with room, which are 0.
 fn is_as_lent(case: &Case, after: &Lent) -> bool {
     let lent = &case.lent;
     let needed = case.call.result_length();
-    let written = if lent.result.len() < needed {
-        0
-    } else {
+    let written = if case.call.gives_counts() && lent.result.len() >= needed {
         needed
+    } else {
+        0
     };
     after.memory == lent.memory
         && after.peripheral == lent.peripheral

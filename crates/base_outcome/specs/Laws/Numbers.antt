@@ -1,15 +1,18 @@
--- No two refusals have one number, nor do two stops of one processor.
+-- No two refusals have one number, nor do two verdicts, nor two stops of one processor.
 use mathlib.Core.List.{List, [], _∷_}
 use mathlib.Core.Path.{_≡_, refl, sym, ap, _∙_}
 use Prim.Native.Nat.{ℕ, _-_}
+use native.Mathlib.Omega.{arith}
 use lib.ListN.{getD}
 use Rattle.base_outcome.specs.declared.refusal.Refusal.{Refusal}
 use Rattle.base_outcome.specs.declared.refusal.Refusal.the-variants as Refused
+use Rattle.base_outcome.specs.declared.refusal.Verdict.{Verdict}
+use Rattle.base_outcome.specs.declared.refusal.Verdict.the-variants as Call
 use Rattle.base_outcome.specs.declared.stop.CentralStop.{CentralStop}
 use Rattle.base_outcome.specs.declared.stop.CentralStop.the-variants as Central
 use Rattle.base_outcome.specs.declared.stop.PeripheralStop.{PeripheralStop}
 use Rattle.base_outcome.specs.declared.stop.PeripheralStop.the-variants as Peripheral
-use Rattle.base_outcome.specs.Numbers.{refusalNumber, centralStopNumber, peripheralStopNumber}
+use Rattle.base_outcome.specs.Numbers.{refusalNumber, verdictNumber, centralStopNumber, peripheralStopNumber}
 
 -- a number from which the case can be had again is the number of no other case
 distinct : {A : Type 0} (number : A → ℕ) (case : ℕ → A) → ((a : A) → case (number a) ≡ a) → (a b : A) → number a ≡ number b → a ≡ b
@@ -58,6 +61,19 @@ refusal-again Refused.UnreadableLine = refl
 
 pub refusals-distinct : (r s : Refusal) → refusalNumber r ≡ refusalNumber s → r ≡ s
 refusals-distinct = distinct refusalNumber refusalOf refusal-again
+
+-- 0 is no refusal's number
+refusal-not-0 : {B : Type 0} (r : Refusal) → refusalNumber r ≡ 0 → B
+refusal-not-0 r e =
+    let one : refusalNumber r ≡ 1 = ap refusalNumber (sym (refusal-again r) ∙ ap refusalOf e) in
+    let z : _≡_ {A = ℕ} 0 1 = sym e ∙ one in absurd (omega arith)
+
+-- so a number settles the verdict
+pub verdicts-distinct : (v w : Verdict) → verdictNumber v ≡ verdictNumber w → v ≡ w
+verdicts-distinct Call.Accepted Call.Accepted e = refl
+verdicts-distinct Call.Accepted (Call.Refused s) e = refusal-not-0 s (sym e)
+verdicts-distinct (Call.Refused r) Call.Accepted e = refusal-not-0 r e
+verdicts-distinct (Call.Refused r) (Call.Refused s) e = ap Call.Refused (refusals-distinct r s e)
 
 abbrev centralStops : List CentralStop
 centralStops = Central.Halt ∷ Central.OperandOutside ∷ Central.FetchOutside ∷ Central.UnfitCode ∷ Central.LastParcel ∷ []

@@ -1,4 +1,5 @@
--- A verdict by its cases, and the order of refusals.
+-- A verdict by its cases and by its tests, and the order of refusals.
+use mathlib.Core.Bool.{Bool, true, false, cond}
 use mathlib.Core.Path.{_≡_, refl}
 use Prim.Native.Nat.{ℕ}
 use native.Mathlib.Omega.{arith}
@@ -21,3 +22,13 @@ both-accept (Call.Refused r) w e = let z : _≡_ {A = ℕ} 0 1 = cc in absurd (o
 pub or-else-assoc : (u v w : Verdict) → orElse (orElse u v) w ≡ orElse u (orElse v w)
 or-else-assoc Call.Accepted v w = refl
 or-else-assoc (Call.Refused r) v w = refl
+
+-- accepted where a test passes
+pub by-test : (t : Bool) (v : Verdict) (r : Refusal) → cond t v (Call.Refused r) ≡ Call.Accepted → (t ≡ true) × (v ≡ Call.Accepted)
+by-test true v r e = (refl, e)
+by-test false v r e = let z : _≡_ {A = ℕ} 0 1 = cc in absurd (omega arith)
+
+-- accepted where a fault is not found
+pub by-fault : (t : Bool) (r : Refusal) (v : Verdict) → cond t (Call.Refused r) v ≡ Call.Accepted → (t ≡ false) × (v ≡ Call.Accepted)
+by-fault true r v e = let z : _≡_ {A = ℕ} 0 1 = cc in absurd (omega arith)
+by-fault false r v e = (refl, e)

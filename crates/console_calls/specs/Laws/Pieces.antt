@@ -3,7 +3,7 @@ use mathlib.Core.List.{List, [], _∷_, _++_}
 use mathlib.Core.Path.{_≡_, refl, sym, ap, _∙_}
 use Prim.Native.Nat.{ℕ}
 use Rattle.console_reader.specs.Laws.Input.{feed-append}
-use Rattle.console_reader.specs.Reader.{Feeding, feedAll, nothingFed, endOf}
+use Rattle.console_reader.specs.Laws.BytesRead.{Feeding, feedAll, nothingFed, endOf}
 use Rattle.console_calls.specs.Console.{outputOn, outputOf}
 use Rattle.console_calls.specs.Laws.Finish.{output-fed}
 

@@ -6,9 +6,10 @@ use native.Mathlib.Omega.{arith}
 use lib.ListN.{length, take, set}
 use Rattle.console_line.specs.declared.form.Line.the-variants.{Job, Stint}
 use Rattle.console_grammar.specs.Reading.{Request, readable, unreadable, inJobs, inStints, jobTo, withJob, withStint, lineTo}
-use Rattle.console_grammar.specs.Held.{lists, inUse, readingAt, jobsInUse, stintsInUse, CountsFit, jobEntries, stintEntries}
-use Rattle.console_grammar.specs.Applied.{Applied}
-use Rattle.console_grammar.specs.Laws.Entries.{take-kept, entry-added, entries-full}
+use Rattle.console_grammar.specs.Held.{lists, inUse, readingAt, jobsInUse, stintsInUse, CountsFit, firsts, jobEntries, stintEntries}
+use Rattle.console_grammar.specs.Store.{storeLine}
+use Rattle.console_grammar.specs.Applied.{JobRead, StintRead}
+use Rattle.console_grammar.specs.Laws.Store.{Laid, laid-first, laid-same, laid-entry, laid-full, store-readable}
 use Rattle.console_grammar.specs.declared.progress.Part.{Part}
 use Rattle.console_grammar.specs.declared.progress.Part.the-variants as Last
 use Rattle.console_grammar.specs.declared.progress.Progress.{Progress}
@@ -28,46 +29,46 @@ unfolding lineTo
 stint-first part job turns e q = rw e
 
 -- a job more
-module _ (p : Progress) (a : ℕ) (js : List ℕ) (long : length js ≡ jobEntries) (k : CountsFit p)
+module _ {p : Progress} {a : ℕ} {js : List ℕ} (long : length js ≡ jobEntries) (k : CountsFit p)
     (added : (q : Request) → lineTo (readingAt (p .part) q) (Job a) ≡ readable inJobs (withJob q a)) where
-  job-held : (n : ℕ) (js′ : List ℕ) → n ≤ jobEntries → take n js′ ≡ take jobEntries (take (p .jobs) js ++ (a ∷ []))
-      → (m ss ts : List ℕ) → Applied (Job a) p m (lists js ss ts) (jobsInUse p n) m (lists js′ ss ts)
-  job-held n js′ h e m ss ts =
+  job-stored : (n : ℕ) (js′ : List ℕ) → Laid n (take jobEntries (take (p .jobs) js ++ (a ∷ []))) js js′ → JobRead a p js (jobsInUse p n) js′
+  unfolding storeLine
+  job-stored n js′ e m ss ts room =
       record {
         is =
-            rw (added (inUse p m (lists js ss ts)), e, take-kept (p .stints) stintEntries ss (k .stints), take-kept (p .stints) stintEntries ts (k .stints));
-        counts-fit = record { words = k .words; jobs = h; stints = k .stints };
+            rw (added (inUse p m (lists js ss ts)))
+            (store-readable inJobs (firsts (withJob (inUse p m (lists js ss ts)) a)) (laid-first (p .words) m (omega (arith, k .words, room .memory))) e
+            (laid-same (p .stints) stintEntries ss (k .stints) (omega (arith, k .stints, room .stintJobs)))
+            (laid-same (p .stints) stintEntries ts (k .stints) (omega (arith, k .stints, room .stintTurns))));
       }
 
-  pub job-kept : p .jobs < jobEntries → (m ss ts : List ℕ)
-      → Applied (Job a) p m (lists js ss ts) (jobsInUse p (p .jobs + 1)) m (lists (set js (p .jobs) a) ss ts)
-  job-kept h = job-held (p .jobs + 1) (set js (p .jobs) a) (omega arith) (entry-added (p .jobs) jobEntries js a long h)
+  pub job-kept : p .jobs < jobEntries → JobRead a p js (jobsInUse p (p .jobs + 1)) (set js (p .jobs) a)
+  job-kept h = job-stored (p .jobs + 1) (set js (p .jobs) a) (laid-entry (p .jobs) jobEntries js a long h)
 
-  pub job-over : jobEntries ≤ p .jobs → (m ss ts : List ℕ)
-      → Applied (Job a) p m (lists js ss ts) (jobsInUse p (p .jobs)) m (lists js ss ts)
-  job-over h = job-held (p .jobs) js (k .jobs) (entries-full (p .jobs) jobEntries js a long (omega (arith, k .jobs)))
+  pub job-over : jobEntries ≤ p .jobs → JobRead a p js (jobsInUse p (p .jobs)) js
+  job-over h = job-stored (p .jobs) js (laid-full (p .jobs) jobEntries js a long (omega (arith, k .jobs)))
 
 -- a stint more
-module _ (p : Progress) (job turns : ℕ) (ss ts : List ℕ) (long : length ss ≡ stintEntries) (long′ : length ts ≡ stintEntries) (k : CountsFit p)
+module _ {p : Progress} {job turns : ℕ} {ss ts : List ℕ} (long : length ss ≡ stintEntries) (long′ : length ts ≡ stintEntries) (k : CountsFit p)
     (added : (q : Request) → lineTo (readingAt (p .part) q) (Stint job turns) ≡ readable inStints (withStint q job turns)) where
-  stint-held : (n : ℕ) (ss′ ts′ : List ℕ) → n ≤ stintEntries → take n ss′ ≡ take stintEntries (take (p .stints) ss ++ (job ∷ []))
-      → take n ts′ ≡ take stintEntries (take (p .stints) ts ++ (turns ∷ []))
-      → (m js : List ℕ) → Applied (Stint job turns) p m (lists js ss ts) (stintsInUse p n) m (lists js ss′ ts′)
-  stint-held n ss′ ts′ h e f m js =
+  stint-stored : (n : ℕ) (ss′ ts′ : List ℕ) → Laid n (take stintEntries (take (p .stints) ss ++ (job ∷ []))) ss ss′
+      → Laid n (take stintEntries (take (p .stints) ts ++ (turns ∷ []))) ts ts′ → StintRead job turns p ss ts (stintsInUse p n) ss′ ts′
+  unfolding storeLine
+  stint-stored n ss′ ts′ e f m js room =
       record {
-        is = rw (added (inUse p m (lists js ss ts)), e, f, take-kept (p .jobs) jobEntries js (k .jobs));
-        counts-fit = record { words = k .words; jobs = k .jobs; stints = h };
+        is =
+            rw (added (inUse p m (lists js ss ts)))
+            (store-readable inStints (firsts (withStint (inUse p m (lists js ss ts)) job turns)) (laid-first (p .words) m (omega (arith, k .words, room .memory)))
+            (laid-same (p .jobs) jobEntries js (k .jobs) (omega (arith, k .jobs, room .jobs))) e f);
       }
 
-  pub stint-kept : p .stints < stintEntries → (m js : List ℕ)
-      → Applied (Stint job turns) p m (lists js ss ts) (stintsInUse p (p .stints + 1)) m
-      (lists js (set ss (p .stints) job) (set ts (p .stints) turns))
+  pub stint-kept : p .stints < stintEntries
+      → StintRead job turns p ss ts (stintsInUse p (p .stints + 1)) (set ss (p .stints) job) (set ts (p .stints) turns)
   stint-kept h =
-      stint-held (p .stints + 1) (set ss (p .stints) job) (set ts (p .stints) turns) (omega arith)
-      (entry-added (p .stints) stintEntries ss job long h) (entry-added (p .stints) stintEntries ts turns long′ h)
+      stint-stored (p .stints + 1) (set ss (p .stints) job) (set ts (p .stints) turns)
+      (laid-entry (p .stints) stintEntries ss job long h) (laid-entry (p .stints) stintEntries ts turns long′ h)
 
-  pub stint-over : stintEntries ≤ p .stints → (m js : List ℕ)
-      → Applied (Stint job turns) p m (lists js ss ts) (stintsInUse p (p .stints)) m (lists js ss ts)
+  pub stint-over : stintEntries ≤ p .stints → StintRead job turns p ss ts (stintsInUse p (p .stints)) ss ts
   stint-over h =
-      stint-held (p .stints) ss ts (k .stints) (entries-full (p .stints) stintEntries ss job long (omega (arith, k .stints)))
-      (entries-full (p .stints) stintEntries ts turns long′ (omega (arith, k .stints)))
+      stint-stored (p .stints) ss ts (laid-full (p .stints) stintEntries ss job long (omega (arith, k .stints)))
+      (laid-full (p .stints) stintEntries ts turns long′ (omega (arith, k .stints)))

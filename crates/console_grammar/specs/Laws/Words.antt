@@ -1,17 +1,18 @@
 -- The line words=, and the loop that clears the memory for it.
 use mathlib.Core.Bool.{and-false}
-use mathlib.Core.List.{List, [], _∷_}
-use mathlib.Core.Path.{_≡_, refl, sym, ap, _∙_}
-use Prim.Native.Nat.{ℕ, zero, suc, _+_, _≤_, _<_}
+use mathlib.Core.List.{List, []}
+use mathlib.Core.Path.{_≡_, refl, sym, _∙_}
+use Prim.Native.Nat.{ℕ, _+_, _≤_, _<_}
 use native.Mathlib.Numerals.{add-one}
 use native.Mathlib.Omega.{arith}
 use borrow.Author.Tests.{lt-leb, le-leb}
 use lib.Dec.{leb}
-use lib.ListN.{length, take, set, replicate, length-set, replicate-append-replicate}
-use lib.Seq.{take-all, take-suc-set}
+use lib.ListN.{length, take, drop, set, replicate, length-set, length-replicate, replicate-append-replicate, take-append-drop}
+use lib.Seq.{take-suc-set, drop-set-lt}
 use Rattle.console_line.specs.declared.form.Line.the-variants.{Words}
 use Rattle.console_grammar.specs.Reading.{Request, request, readable, unreadable, afterWords, wordsTo, lineTo}
 use Rattle.console_grammar.specs.Held.{inUse, readingAt}
+use Rattle.console_grammar.specs.Store.{over, storeLine}
 use Rattle.console_grammar.specs.Applied.{LineRead}
 use Rattle.console_grammar.specs.declared.progress.Part.{Part}
 use Rattle.console_grammar.specs.declared.progress.Part.the-variants as Last
@@ -41,11 +42,6 @@ words-low part n h = refused-words part n (too-few n h)
 pub words-high : (part : Part) (n : ℕ) → 0o10000 < n → (q : Request) → lineTo (readingAt part q) (Words n) ≡ unreadable
 words-high part n h = refused-words part n (too-many n h)
 
-take-replicate : (n k : ℕ) → n ≤ k → take {A = ℕ} n (replicate k 0) ≡ replicate n 0
-take-replicate zero k h = refl
-take-replicate (suc n) zero h = absurd (omega arith)
-take-replicate (suc n) (suc k) h = ap (λ (l : List ℕ). 0 ∷ l) (take-replicate n k (omega arith))
-
 abbrev cleared : ℕ → Progress
 cleared n = record { part = Last.Words; words = n; jobs = 0; stints = 0 }
 
@@ -54,30 +50,35 @@ first-words : (part : Part) (n : ℕ) → part ≡ Last.Start → 1 ≤ n → n 
 unfolding lineTo wordsTo
 first-words part n e l h q = rw (e, le-leb 1 n l, le-leb n 0o10000 h)
 
-pub words-line-read : (p : Progress) (m m′ : List ℕ) (n : ℕ) → p .part ≡ Last.Start → 1 ≤ n → n ≤ 0o10000
-    → length m ≡ 4096 → m′ ≡ replicate (length m) 0 → LineRead (Words n) p m (cleared n) m′
-words-line-read p m m′ n e l h f g =
-    record {
-      is = λ q. rw (g, f, take-replicate n 4096 h) (sym (first-words (p .part) n e l h (inUse p m q)));
-      counts-fit = record { words = omega arith; jobs = omega arith; stints = omega arith };
-    }
+-- the first n words are cleared, and the others stay
+pub words-line-read : {p : Progress} {m m′ : List ℕ} {n : ℕ} → p .part ≡ Last.Start → 1 ≤ n → n ≤ 0o10000 → m′ ≡ over (replicate n 0) m
+    → LineRead (Words n) p m (cleared n) m′
+unfolding storeLine
+words-line-read {p} {m} {m′} {n} e l h f ls room =
+    record { is = rw (first-words (p .part) n e l h (inUse p m ls), f, length-replicate {A = ℕ} n) }
 
--- the loop that clears a memory
-pub record Clearing (m₀ m : List ℕ) (i : ℕ) : Type 0 where
+-- the loop that clears the first words of a memory
+pub record Clearing (m₀ m : List ℕ) (words i : ℕ) : Type 0 where
   pub cleared : take i m ≡ replicate i 0
+  pub rest : drop words m ≡ drop words m₀
+  pub most : i ≤ words
   pub same-length : length m ≡ length m₀
 
-pub clearing-start : (m : List ℕ) → Clearing m m 0
-clearing-start m = record { cleared = refl; same-length = refl }
+pub clearing-start : (m : List ℕ) (words : ℕ) → Clearing m m words 0
+clearing-start m words = record { cleared = refl; rest = refl; most = omega arith; same-length = refl }
 
-pub clearing-next : {m₀ m : List ℕ} {i : ℕ} → Clearing m₀ m i → i < length m → Clearing m₀ (set m i 0) (i + 1)
-clearing-next {m = m} {i = i} g h =
-    record {
-      cleared = rw (add-one, take-suc-set m i 0 h, g .cleared) (rw add-one at (replicate-append-replicate {A = ℕ} i 1 0));
-      same-length = length-set m i 0 ∙ g .same-length;
-    }
+module _ {m₀ m : List ℕ} {words i : ℕ} (g : Clearing m₀ m words i) where
+  pub clearing-next : i < words → i < length m → Clearing m₀ (set m i 0) words (i + 1)
+  clearing-next h k =
+      record {
+        cleared = rw (add-one, take-suc-set m i 0 k, g .cleared) (rw add-one at (replicate-append-replicate {A = ℕ} i 1 0));
+        rest = drop-set-lt words m i 0 h ∙ g .rest;
+        most = omega arith;
+        same-length = length-set m i 0 ∙ g .same-length;
+      }
 
-pub clearing-end : {m₀ m : List ℕ} {i : ℕ} → Clearing m₀ m i → i ≤ length m → length m ≤ i → m ≡ replicate (length m₀) 0
-clearing-end {m₀} {m} {i} g h k =
-    let e : i ≡ length m₀ = omega (arith, g .same-length) in
-    sym (take-all i m k) ∙ g .cleared ∙ rw e
+  pub clearing-end : words ≤ i → m ≡ over (replicate words 0) m₀
+  clearing-end h =
+      let e : words ≡ i = omega (arith, g .most) in
+      let first : take words m ≡ replicate words 0 = rw e (g .cleared) in
+      rw (length-replicate {A = ℕ} words, ← g .rest, ← first) (sym (take-append-drop words m))

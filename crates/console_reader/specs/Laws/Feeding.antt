@@ -1,61 +1,54 @@
--- What a line does to a reader, and the tests of what it may read.
-use mathlib.Core.Bool.{Bool, true, false, _&&_, cond, false≢true}
+-- What bytes do to a reader, and to what it holds of the input.
+use mathlib.Core.Bool.{Bool, true, false}
 use mathlib.Core.List.{List, [], _∷_, _++_}
-use mathlib.Core.Path.{_≡_, refl, sym, ap, _∙_}
+use mathlib.Core.Path.{_≡_, refl, sym, ap, subst, _∙_}
 use Prim.Native.Nat.{ℕ, zero, suc, _+_, _≤_, _<_}
 use native.Mathlib.Numerals.{add-one}
 use native.Mathlib.Omega.{arith}
-use borrow.Author.Tests.{eq-eqb, le-leb, eqb-true, leb-true}
-use lib.Dec.{eqb, leb}
+use borrow.Author.Tests.{eq-eqb, ne-eqb, ltb-true, ltb-false}
+use lib.Dec.{eqb, ltb}
 use lib.ListN.{length, take, drop, getD, drop-of-length-le}
 use lib.Seq.{drop-cons}
-use Rattle.base_logic.specs.Laws.Choice.{of-cond}
-use Rattle.base_logic.specs.Laws.Tests.{both}
 use Rattle.console_line.specs.Form.{lineOf}
 use Rattle.console_line.specs.declared.form.Line.{Line}
-use Rattle.console_grammar.specs.Reading.{Request, Reading, noLine, readable, unreadable, lineTo}
-use Rattle.console_grammar.specs.Held.{Lists, readingAt, held, unreadableProgress, CountsFit, Room, keep, jobEntries, stintEntries}
+use Rattle.console_grammar.specs.Reading.{Request, Reading}
+use Rattle.console_grammar.specs.Held.{Lists, readingAt, held}
+use Rattle.console_grammar.specs.Store.{InputStore, inputStore, storeLine}
 use Rattle.console_grammar.specs.Applied.{Applied}
+use Rattle.console_grammar.specs.Laws.Entries.{entry-added, entries-full}
+use Rattle.console_grammar.specs.Laws.StoreHeld.{Holds, line-held}
 use Rattle.console_grammar.specs.declared.progress.Part.{Part}
 use Rattle.console_grammar.specs.declared.progress.Part.the-variants as Last
 use Rattle.console_grammar.specs.declared.progress.Progress.{Progress}
-use Rattle.console_reader.specs.Reader.{Feeding, feeding, feedTo, feedAll, atLineStart, heldBy, hasRoom, isReady, canRead, feedingOf, endOf, isReadable}
-use Rattle.console_reader.specs.LineBytes.{LineFilled}
-use Rattle.console_reader.specs.Fed.{ReaderReady, FedAll, FedAny}
-use Rattle.console_reader.specs.Laws.LineBytes.{feed-begun, feed-filled, line-feed-at}
+use Rattle.console_reader.specs.LineBytes.{begunLine, keepByte, LineFilled}
+use Rattle.console_reader.specs.Reader.{ReaderState, readerState, withLine, afterLine, begunBy, byteFed, bytesFed, isReadPart, isComplete}
+use Rattle.console_reader.specs.Laws.BytesRead.{Feeding, feeding, feedTo, feedAll, heldBy, endOf, isReadable}
+use Rattle.console_reader.specs.Fed.{ReaderReady}
+use Rattle.console_reader.specs.Laws.LineBytes.{byte-fits, line-feed-byte, plain-byte, fed-filled, filled-fits, line-feed-at}
 use Rattle.console_reader.specs.declared.line_bytes.Filled.{Filled}
 use Rattle.console_reader.specs.declared.reader.Reader.{Reader}
 
-pub room-same : {m m′ : List ℕ} {l l′ : Lists} → Room m l → length m′ ≡ length m → length (l′ .jobs) ≡ length (l .jobs)
-    → length (l′ .stintJobs) ≡ length (l .stintJobs) → length (l′ .stintTurns) ≡ length (l .stintTurns) → Room m′ l′
-room-same k e f g h =
-    record { memory = e ∙ k .memory; jobs = f ∙ k .jobs; stintJobs = g ∙ k .stintJobs; stintTurns = h ∙ k .stintTurns }
+-- ---- the loop over the lines
 
 -- to read on from a place gives what all bytes give
 pub record FeedingOn (bytes : List ℕ) (r₀ : Reader) (m₀ : List ℕ) (l₀ : Lists) (at : ℕ) (r : Reader) (m : List ℕ) (l : Lists) : Type 0 where
-  pub is : feedAll (heldBy r m l) (drop at bytes) ≡ feedAll (heldBy r₀ m₀ l₀) bytes
+  pub is : bytesFed (readerState r m l) (drop at bytes) ≡ bytesFed (readerState r₀ m₀ l₀) bytes
   pub ready : ReaderReady r m l
 
 pub feeding-start : {bytes : List ℕ} {r : Reader} {m : List ℕ} {l : Lists} → ReaderReady r m l → FeedingOn bytes r m l 0 r m l
 feeding-start k = record { is = refl; ready = k }
 
--- a reader with n bytes of a line
-abbrev pub withLine : Progress → List ℕ → ℕ → Reader
-withLine p line n = record { progress = p; line = line; length = n }
+fed-line-feed : (bytes : List ℕ) (i : ℕ) (r : Reader) (m : List ℕ) (l : Lists) → i < length bytes → getD bytes i 0 ≡ 10
+    → bytesFed (afterLine (r .line) (storeLine (inputStore (r .progress) m l) (lineOf (take (r .length) (r .line))))) (drop (i + 1) bytes)
+    ≡ bytesFed (readerState r m l) (drop i bytes)
+unfolding bytesFed
+fed-line-feed bytes i r m l h e =
+    let fed = line-feed-byte (readerState r m l) (getD bytes i 0) (eq-eqb (getD bytes i 0) 10 e) in
+    rw (add-one, drop-cons bytes i 0 h) (ap (λ (s : ReaderState). bytesFed s (drop (suc i) bytes)) (sym fed))
 
-feed-line-feed : (bytes : List ℕ) (i : ℕ) (line : List ℕ) (x : Reading) → i < length bytes → getD bytes i 0 ≡ 10
-    → feedAll (feeding [] (keep (lineTo x (lineOf line)))) (drop (i + 1) bytes) ≡ feedAll (feeding line x) (drop i bytes)
-unfolding feedAll
-feed-line-feed bytes i line x h e =
-    let fed : feedTo (feeding line x) (getD bytes i 0) ≡ feeding [] (keep (lineTo x (lineOf line))) =
-    feed-begun line x (getD bytes i 0)
-    ∙ ap (λ (t : Bool). cond t (feeding [] (keep (lineTo x (lineOf line)))) (feeding (take 32 (line ++ (getD bytes i 0 ∷ []))) x))
-    (eq-eqb (getD bytes i 0) 10 e) in
-    rw (add-one, drop-cons bytes i 0 h) (ap (λ (f : Feeding). feedAll f (drop (suc i) bytes)) (sym fed))
-
-feed-end : (bytes : List ℕ) (i : ℕ) (f : Feeding) → length bytes ≤ i → feedAll f (drop i bytes) ≡ f
-unfolding feedAll
-feed-end bytes i f h = rw (drop-of-length-le bytes h)
+-- a line that was read leaves a reader that is ready
+ready-after : (line : List ℕ) (s : InputStore) {x : Reading} → length line ≡ 32 → Holds s x → ReaderReady (withLine (s .progress) line 0) (s .memory) (s .lists)
+ready-after line s long k = record { progress = k .counts-fit; room = k .room; begun = omega arith; long = long }
 
 module _ {bytes : List ℕ} {r₀ : Reader} {m₀ : List ℕ} {l₀ : Lists} {at : ℕ} {r : Reader} {m : List ℕ} {l : Lists}
     (g : FeedingOn bytes r₀ m₀ l₀ at r m l) where
@@ -63,176 +56,117 @@ module _ {bytes : List ℕ} {r₀ : Reader} {m₀ : List ℕ} {l₀ : Lists} {at
     -- the line was filled
     pub feeding-filled : FeedingOn bytes r₀ m₀ l₀ (f .at) (withLine (r .progress) line (f .length)) m l
     feeding-filled =
+        let fits = filled-fits k (g .ready .begun) (g .ready .long) in
         record {
-          is = feed-filled k (held (r .progress) m l) (g .ready .begun) ∙ g .is;
-          ready = record { progress = g .ready .progress; room = g .ready .room; begun = k .room; long = k .long };
+          is = fed-filled k (r .progress) m l ∙ g .is;
+          ready = record { progress = g .ready .progress; room = g .ready .room; begun = fits .begun; long = fits .long };
         }
 
     -- the line was filled to its line feed, and read
     pub feeding-line : {m′ : List ℕ} {l′ : Lists} {p : Progress} {said : Line} → f .at < length bytes → said ≡ lineOf (take (f .length) line)
-        → Applied said (r .progress) m l p m′ l′ → Room m′ l′ → FeedingOn bytes r₀ m₀ l₀ (f .at + 1) (withLine p line 0) m′ l′
-    feeding-line {m′} {l′} {p} {said} h e a room =
-        let read : held p m′ l′ ≡ keep (lineTo (held (r .progress) m l) (lineOf (take (f .length) line))) =
-        a .is ∙ ap (λ (x : Line). keep (lineTo (held (r .progress) m l) x)) e in
+        → Applied said (r .progress) m l p m′ l′ → FeedingOn bytes r₀ m₀ l₀ (f .at + 1) (withLine p line 0) m′ l′
+    feeding-line {m′} {l′} {p} {said} h e a =
+        let text = lineOf (take (f .length) line) in
+        let read : inputStore p m′ l′ ≡ storeLine (inputStore (r .progress) m l) text =
+        a .is ∙ ap (λ (x : Line). storeLine (inputStore (r .progress) m l) x) e in
         record {
           is =
-              ap (λ (x : Reading). feedAll (feeding [] x) (drop (f .at + 1) bytes)) read
-              ∙ feed-line-feed bytes (f .at) (take (f .length) line) (held (r .progress) m l) h (line-feed-at k h)
+              ap (λ (s : InputStore). bytesFed (afterLine line s) (drop (f .at + 1) bytes)) read
+              ∙ fed-line-feed bytes (f .at) (withLine (r .progress) line (f .length)) m l h (line-feed-at k h)
               ∙ feeding-filled .is;
-          ready = record { progress = a .counts-fit; room = room; begun = omega arith; long = k .long };
+          ready =
+              subst (λ (s : InputStore). ReaderReady (withLine (s .progress) line 0) (s .memory) (s .lists)) (sym read)
+              (ready-after line _ (feeding-filled .ready .long) (line-held (r .progress) m l text (g .ready .progress) (g .ready .room)));
         }
 
-  pub feeding-end : length bytes ≤ at → FedAll bytes r₀ m₀ l₀ r m l
-  feeding-end h = record { is = sym (feed-end bytes at (heldBy r m l) h) ∙ g .is; ready = g .ready }
+  pub feeding-end : length bytes ≤ at → readerState r m l ≡ bytesFed (readerState r₀ m₀ l₀) bytes
+  unfolding bytesFed
+  feeding-end h = rw (← g .is, drop-of-length-le bytes h)
 
--- the tests of room and counts
-room-by-test : (m : List ℕ) (l : Lists) → hasRoom m l ≡ true → Room m l
-room-by-test m l e =
-    let e₁ = both (eqb (length m) 4096) _ e in
-    let e₂ = both (eqb (length (l .jobs)) jobEntries) _ (e₁ .1) in
-    let e₃ = both (eqb (length (l .stintJobs)) stintEntries) (eqb (length (l .stintTurns)) stintEntries) (e₂ .1) in
-    record {
-      memory = eqb-true (length m) 4096 (e₁ .0);
-      jobs = eqb-true (length (l .jobs)) jobEntries (e₂ .0);
-      stintJobs = eqb-true (length (l .stintJobs)) stintEntries (e₃ .0);
-      stintTurns = eqb-true (length (l .stintTurns)) stintEntries (e₃ .1);
-    }
+-- ---- what a reader holds
 
-counts-by-test : (p : Progress) (n : ℕ)
-    → (leb (p .words) 4096 && (leb (p .jobs) jobEntries && (leb (p .stints) stintEntries && leb n 32))) ≡ true → CountsFit p × (n ≤ 32)
-counts-by-test p n e =
-    let e₁ = both (leb (p .words) 4096) _ e in
-    let e₂ = both (leb (p .jobs) jobEntries) _ (e₁ .1) in
-    let e₃ = both (leb (p .stints) stintEntries) (leb n 32) (e₂ .1) in (
-      record {
-        words = leb-true (p .words) 4096 (e₁ .0);
-        jobs = leb-true (p .jobs) jobEntries (e₂ .0);
-        stints = leb-true (p .stints) stintEntries (e₃ .0);
-      },
-      leb-true n 32 (e₃ .1),
-    )
+abbrev heldIn : ReaderState → Feeding
+heldIn s = heldBy (s .reader) (s .memory) (s .lists)
 
-pub ready-by-test : (r : Reader) (m : List ℕ) (l : Lists) → canRead r m l ≡ true → length (r .line) ≡ 32 → ReaderReady r m l
-ready-by-test r m l e long =
-    let tests = both (hasRoom m l) (isReady r) e in
-    let counts = counts-by-test (r .progress) (r .length) (tests .1) in
-    record { progress = counts .0; room = room-by-test m l (tests .0); begun = counts .1; long = long }
+abbrev ReadyIn : ReaderState → Type 0
+ReadyIn s = ReaderReady (s .reader) (s .memory) (s .lists)
 
-test-by-ready : (r : Reader) (m : List ℕ) (l : Lists) → ReaderReady r m l → canRead r m l ≡ true
-test-by-ready r m l k =
-    rw (
-      eq-eqb (length m) 4096 (k .room .memory),
-      eq-eqb (length (l .jobs)) jobEntries (k .room .jobs),
-      eq-eqb (length (l .stintJobs)) stintEntries (k .room .stintJobs),
-      eq-eqb (length (l .stintTurns)) stintEntries (k .room .stintTurns),
-      le-leb (r .progress .words) 4096 (k .progress .words),
-      le-leb (r .progress .jobs) jobEntries (k .progress .jobs),
-      le-leb (r .progress .stints) stintEntries (k .progress .stints),
-      le-leb (r .length) 32 (k .begun),
-    )
+-- a byte of a line: what it does to the reader, it does to what it holds
+kept-held : (line : List ℕ) (n byte : ℕ) → n ≤ 32 → length line ≡ 32
+    → take (keepByte (begunLine line n) byte .length) (keepByte (begunLine line n) byte .line) ≡ take 32 (take n line ++ (byte ∷ []))
+unfolding keepByte
+kept-held line n byte h long = by-test (ltb n 32) refl
+  where
+    by-test : (t : Bool) → ltb n 32 ≡ t
+        → take (keepByte (begunLine line n) byte .length) (keepByte (begunLine line n) byte .line) ≡ take 32 (take n line ++ (byte ∷ []))
+    by-test true e = rw e (entry-added n 32 line byte long (ltb-true n 32 e))
+    by-test false e = rw e (entries-full n 32 line byte long (omega (arith, ltb-false n 32 e)))
 
-held-by : (r : Reader) (m : List ℕ) (l : Lists) → canRead r m l ≡ true → feedingOf r m l ≡ heldBy r m l
-unfolding feedingOf
-held-by r m l e = rw e
+-- one byte, and then all
+record ByteHeld (f : Feeding) (byte : ℕ) (s′ : ReaderState) : Type 0 where
+  is : heldIn s′ ≡ feedTo f byte
+  ready : ReadyIn s′
 
-pub feeding-ready : (r : Reader) (m : List ℕ) (l : Lists) → ReaderReady r m l → feedingOf r m l ≡ heldBy r m l
-feeding-ready r m l k = held-by r m l (test-by-ready r m l k)
+module _ (s : ReaderState) (byte : ℕ) (k : ReadyIn s) where
+  abbrev r : Reader
+  r = s .reader
 
--- once unreadable, always so
-feed-unreadable : (byte : ℕ) → feedTo (feeding [] unreadable) byte ≡ feeding [] unreadable
-unfolding feedTo lineTo
-feed-unreadable byte = of-cond (λ (f : Feeding). f ≡ feeding [] unreadable) (eqb byte 10) (λ _. refl) (λ _. refl)
+  abbrev line : Line
+  line = lineOf (take (r .length) (r .line))
 
-pub unreadable-stays : (bytes : List ℕ) → feedAll (feeding [] unreadable) bytes ≡ feeding [] unreadable
-unfolding feedAll
-unreadable-stays [] = refl
-unreadable-stays (byte ∷ bytes) =
-    ap (λ (f : Feeding). feedAll f bytes) (feed-unreadable byte) ∙ unreadable-stays bytes
+  byte-held : ByteHeld (heldIn s) byte (byteFed s byte)
+  unfolding feedTo
+  byte-held = by-test (eqb byte 10) refl
+    where
+      by-test : (t : Bool) → eqb byte 10 ≡ t → ByteHeld (heldIn s) byte (byteFed s byte)
+      by-test true e =
+          let h = line-held (r .progress) (s .memory) (s .lists) line (k .progress) (k .room) in
+          record { is = rw (line-feed-byte s byte e, e, h .is); ready = rw (line-feed-byte s byte e) (ready-after (r .line) _ (k .long) h) }
+      by-test false e =
+          let fits = byte-fits (begunBy r) byte (record { begun = k .begun; long = k .long }) in
+          let plain = plain-byte (r .progress) (begunBy r) (s .memory) (s .lists) byte e in
+          record {
+            is = rw (plain, e, kept-held (r .line) (r .length) byte (k .begun) (k .long));
+            ready = rw plain (record { progress = k .progress; room = k .room; begun = fits .begun; long = fits .long });
+          }
 
-pub feeding-refused : (m : List ℕ) (l : Lists) → feedingOf (atLineStart unreadableProgress) m l ≡ feeding [] unreadable
-unfolding feedingOf
-feeding-refused m l =
-    of-cond (λ (f : Feeding). f ≡ feeding [] unreadable) (hasRoom m l && isReady (atLineStart unreadableProgress)) (λ _. refl) (λ _. refl)
+-- the reading that a reader holds is that of the bytes that it was fed
+pub record BytesHeld (f : Feeding) (bytes : List ℕ) (s′ : ReaderState) : Type 0 where
+  pub is : heldBy (s′ .reader) (s′ .memory) (s′ .lists) ≡ feedAll f bytes
+  pub ready : ReaderReady (s′ .reader) (s′ .memory) (s′ .lists)
 
-pub feeding-unread : (r : Reader) (m : List ℕ) (l : Lists) → canRead r m l ≡ false → feedingOf r m l ≡ feeding [] unreadable
-unfolding feedingOf
-feeding-unread r m l e = rw e
+pub bytes-held : (s : ReaderState) (bytes : List ℕ) → ReaderReady (s .reader) (s .memory) (s .lists)
+    → BytesHeld (heldBy (s .reader) (s .memory) (s .lists)) bytes (bytesFed s bytes)
+unfolding bytesFed feedAll
+bytes-held s [] k = record { is = refl; ready = k }
+bytes-held s (byte ∷ bytes) k =
+    let h = byte-held s byte k in
+    let after = bytes-held (byteFed s byte) bytes (h .ready) in
+    record { is = after .is ∙ ap (λ (f : Feeding). feedAll f bytes) (h .is); ready = after .ready }
 
--- what `feed` gives, with its tests met or not
-pub fed-ready : {bytes : List ℕ} {r r′ : Reader} {m m′ : List ℕ} {l l′ : Lists} → ReaderReady r m l → FedAll bytes r m l r′ m′ l′
-    → FedAny bytes r m l r′ m′ l′
-fed-ready {bytes} {r} {r′} {m} {m′} {l} {l′} k f =
-    record {
-      is = feeding-ready r′ m′ l′ (f .ready) ∙ f .is ∙ ap (λ (x : Feeding). feedAll x bytes) (sym (feeding-ready r m l k));
-      unread = λ e. absurd (false≢true (sym e ∙ test-by-ready r m l k));
-    }
+-- ---- the end of the input
 
-pub fed-unread : {bytes : List ℕ} {r r′ : Reader} {m : List ℕ} {l : Lists} → canRead r m l ≡ false → r′ ≡ atLineStart unreadableProgress
-    → FedAny bytes r m l r′ m l
-fed-unread {bytes} {r} {r′} {m} {l} e f =
-    record {
-      is = rw (f, feeding-unread r m l e) (feeding-refused m l ∙ sym (unreadable-stays bytes));
-      unread = λ _. (f, refl, refl);
-    }
+part-complete : (part : Part) (q : Request) → isReadPart part ≡ isReadable (endOf (feeding [] (readingAt part q)))
+part-complete Last.Start q = refl
+part-complete Last.Words q = refl
+part-complete (Last.Block b e) q = refl
+part-complete Last.Jobs q = refl
+part-complete Last.Stints q = refl
+part-complete Last.Unreadable q = refl
 
--- the tests of a complete input
-some-line : (n : ℕ) (line : List ℕ) (x : Reading) → (n ≡ 0 → ⊥) → length line ≡ 32 → isReadable (endOf (feeding (take n line) x)) ≡ false
-some-line zero line x h e = absurd (h refl)
-some-line (suc n) [] x h e = absurd (omega arith)
-some-line (suc n) (b ∷ line) noLine h e = refl
-some-line (suc n) (b ∷ line) (readable part q) h e = refl
-some-line (suc n) (b ∷ line) unreadable h e = refl
+complete-by : (p : Progress) (bytes : List ℕ) (n : ℕ) (m : List ℕ) (l : Lists) → length bytes ≡ 32
+    → isComplete (withLine p bytes n) ≡ isReadable (endOf (heldBy (withLine p bytes n) m l))
+complete-by p bytes zero m l long = part-complete (p .part) _
+complete-by p [] (suc n) m l long = absurd (omega arith)
+complete-by p (byte ∷ bytes) (suc n) m l long = rw (ne-eqb (suc n) 0 (λ e. omega (arith, e)))
 
-no-line-begun : (x : Reading) → endOf (feeding [] x) ≡ x
-no-line-begun noLine = refl
-no-line-begun (readable part q) = refl
-no-line-begun unreadable = refl
+pub complete-is : (r : Reader) (m : List ℕ) (l : Lists) → ReaderReady r m l → isComplete r ≡ isReadable (endOf (heldBy r m l))
+complete-is r m l k = complete-by (r .progress) (r .line) (r .length) m l (k .long)
 
-module _ (r : Reader) (m : List ℕ) (l : Lists) where
-  pub incomplete : feedingOf r m l ≡ feeding [] unreadable → isReadable (endOf (feedingOf r m l)) ≡ false
-  incomplete e = rw e
-
-  module _ (k : ReaderReady r m l) where
-    pub line-begun : (r .length ≡ 0 → ⊥) → isReadable (endOf (feedingOf r m l)) ≡ false
-    line-begun h = rw (feeding-ready r m l k) (some-line (r .length) (r .line) (held (r .progress) m l) h (k .long))
-
-    complete-is : r .length ≡ 0 → endOf (feedingOf r m l) ≡ held (r .progress) m l
-    complete-is h = rw (feeding-ready r m l k, h) (no-line-begun (held (r .progress) m l))
-
-    pub complete-at : {t : Bool} → r .length ≡ 0 → isReadable (held (r .progress) m l) ≡ t → t ≡ isReadable (endOf (feedingOf r m l))
-    complete-at h e = sym (ap isReadable (complete-is h) ∙ e)
-
-pub start-incomplete : (part : Part) → part ≡ Last.Start → (q : Request) → isReadable (readingAt part q) ≡ false
-start-incomplete part e q = rw e
-
-pub refused-incomplete : (part : Part) → part ≡ Last.Unreadable → (q : Request) → isReadable (readingAt part q) ≡ false
-refused-incomplete part e q = rw e
-
--- a readable input was held with no line begun, and within its room
-pub record Complete (r : Reader) (m : List ℕ) (l : Lists) : Type 0 where
-  pub progress : CountsFit (r .progress)
-  pub room : Room m l
-  pub is : endOf (feedingOf r m l) ≡ held (r .progress) m l
-
+-- a readable input is held with no line begun
 readable-end : (line : List ℕ) (x : Reading) → isReadable (endOf (feeding line x)) ≡ true → endOf (feeding line x) ≡ x
-readable-end [] noLine e = refl
-readable-end [] (readable part q) e = refl
-readable-end [] unreadable e = refl
-readable-end (byte ∷ line) noLine e = absurd (false≢true e)
-readable-end (byte ∷ line) (readable part q) e = absurd (false≢true e)
-readable-end (byte ∷ line) unreadable e = absurd (false≢true e)
+readable-end [] x e = refl
+readable-end (byte ∷ line) x e = absurd (let z : _≡_ {A = ℕ} 0 1 = cc in omega arith)
 
-complete-by : (r : Reader) (m : List ℕ) (l : Lists) (t : Bool) → canRead r m l ≡ t
-    → isReadable (endOf (cond t (heldBy r m l) (feeding [] unreadable))) ≡ true → Complete r m l
-complete-by r m l true e f =
-    let tests = both (hasRoom m l) (isReady r) e in
-    record {
-      progress = counts-by-test (r .progress) (r .length) (tests .1) .0;
-      room = room-by-test m l (tests .0);
-      is = ap endOf (held-by r m l e) ∙ readable-end (take (r .length) (r .line)) (held (r .progress) m l) f;
-    }
-complete-by r m l false e f = absurd (false≢true f)
-
-pub complete : (r : Reader) (m : List ℕ) (l : Lists) → isReadable (endOf (feedingOf r m l)) ≡ true → Complete r m l
-unfolding feedingOf
-complete r m l e = complete-by r m l (canRead r m l) refl e
+pub complete-held : (r : Reader) (m : List ℕ) (l : Lists) → isReadable (endOf (heldBy r m l)) ≡ true → endOf (heldBy r m l) ≡ held (r .progress) m l
+complete-held r m l e = readable-end (take (r .length) (r .line)) (held (r .progress) m l) e

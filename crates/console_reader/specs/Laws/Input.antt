@@ -2,7 +2,7 @@
 use mathlib.Core.Bool.{Bool, true, false, _&&_, cond}
 use mathlib.Core.List.{List, [], _∷_, _++_}
 use mathlib.Core.Path.{_≡_, refl, ap, _∙_}
-use Prim.Native.Nat.{ℕ, _+_}
+use Prim.Native.Nat.{ℕ, zero, suc, _+_}
 use native.Mathlib.Omega.{arith}
 use lib.Dec.{eqb, leb, ltb}
 use lib.ListN.{length, take, set}
@@ -14,8 +14,13 @@ use Rattle.console_line.specs.declared.form.Line.the-variants.{Words, At, Word,
 use Rattle.console_grammar.specs.Lines.{Lines, linesAfter, linesOf}
 use Rattle.console_grammar.specs.Reading.{Request, request, Part, afterWords, inBlock, inJobs, inStints, Reading, noLine, readable, unreadable, atTo, wordTo, jobTo, withJob, lineTo, allTo, ended, readingOf}
 use Rattle.console_grammar.specs.Held.{firsts, keep, jobEntries, stintEntries}
-use Rattle.console_reader.specs.Reader.{Feeding, feeding, feedTo, feedAll, nothingFed, endOf}
-use Rattle.console_reader.specs.Laws.LineBytes.{feed-begun, cut-more}
+use Rattle.console_reader.specs.Laws.BytesRead.{Feeding, feeding, feedTo, feedAll, nothingFed, endOf}
+
+-- what is cut off a list may as well be cut off once more is added
+cut-more : (n : ℕ) (l x : List ℕ) → take n (take n l ++ x) ≡ take n (l ++ x)
+cut-more zero l x = refl
+cut-more (suc n) [] x = refl
+cut-more (suc n) (a ∷ l) x = ap (λ (t : List ℕ). a ∷ t) (cut-more n l x)
 
 -- bytes in two runs
 pub feed-append : (f : Feeding) (xs ys : List ℕ) → feedAll f (xs ++ ys) ≡ feedAll (feedAll f xs) ys
@@ -89,11 +94,10 @@ both-cond true f g h k = h
 both-cond false f g h k = k
 
 pub feed-lines : (bytes begun : List ℕ) (x : Reading) → feedAll (feeding (take 32 begun) (keep x)) bytes ≡ kept (linesAfter begun bytes) x
-unfolding feedAll linesAfter allTo
+unfolding feedTo feedAll linesAfter allTo
 feed-lines [] begun x = refl
 feed-lines (byte ∷ bytes) begun x =
-    ap (λ (f : Feeding). feedAll f bytes) (feed-begun (take 32 begun) (keep x) byte)
-    ∙ both-cond (eqb byte 10) (λ (f : Feeding). feedAll f bytes) (λ (ls : Lines). kept ls x)
+    both-cond (eqb byte 10) (λ (f : Feeding). feedAll f bytes) (λ (ls : Lines). kept ls x)
     (rw (cut begun, keep-line x (lineOf begun)) (feed-lines bytes [] (lineTo x (lineOf begun))))
     (rw (cut-more 32 begun (byte ∷ [])) (feed-lines bytes (begun ++ (byte ∷ [])) x))
 

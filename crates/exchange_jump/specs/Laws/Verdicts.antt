@@ -1,14 +1,12 @@
 -- What an accepted memory, record and package are.
-use mathlib.Core.Bool.{Bool, true, false, _&&_, cond}
+use mathlib.Core.Bool.{_&&_}
 use mathlib.Core.List.{List}
-use mathlib.Core.Path.{_≡_, refl}
+use mathlib.Core.Path.{_≡_}
 use Prim.Native.Nat.{ℕ, _+_}
-use native.Mathlib.Omega.{arith}
 use borrow.Author.Tests.{leb-true, le-leb, not-true}
 use lib.Dec.{leb}
 use lib.ListN.{length}
-use Rattle.base_outcome.specs.declared.refusal.Refusal.{Refusal}
-use Rattle.base_outcome.specs.declared.refusal.Verdict.{Verdict}
+use Rattle.base_outcome.specs.Laws.Verdict.{by-test}
 use Rattle.base_outcome.specs.declared.refusal.Verdict.the-variants as Call
 use Rattle.central_record.specs.declared.record.Central.{Central}
 use Rattle.central_record.specs.Record.{recordFits, wordsFit, hostVerdict}
@@ -17,16 +15,6 @@ use Rattle.exchange_package.specs.Package.{hasStray}
 use Rattle.exchange_jump.specs.Jump.{recordAt, packageInside, packageClean, fieldInside, packageVerdict}
 use Rattle.exchange_jump.specs.Accepted.{HostAccepted, PackageAccepted}
 use Rattle.base_logic.specs.Laws.Tests.{both}
-
--- accepted where a test passes
-pub by-test : (t : Bool) (v : Verdict) (r : Refusal) → cond t v (Call.Refused r) ≡ Call.Accepted → (t ≡ true) × (v ≡ Call.Accepted)
-by-test true v r e = (refl, e)
-by-test false v r e = let z : _≡_ {A = ℕ} 0 1 = cc in absurd (omega arith)
-
--- accepted where a fault is not found
-pub by-fault : (t : Bool) (r : Refusal) (v : Verdict) → cond t (Call.Refused r) v ≡ Call.Accepted → (t ≡ false) × (v ≡ Call.Accepted)
-by-fault true r v e = let z : _≡_ {A = ℕ} 0 1 = cc in absurd (omega arith)
-by-fault false r v e = (refl, e)
 
 module _ (m : List ℕ) (c : Central) where
   pub host-accepted : hostVerdict m c ≡ Call.Accepted → HostAccepted m c

@@ -8,6 +8,7 @@ use lib.ListN.{set}
 use lib.Seq.{sets}
 use Rattle.base_outcome.specs.Numbers.{refusalNumber}
 use Rattle.base_outcome.specs.declared.refusal.Refusal.{Refusal}
+use Rattle.whole_device.specs.Device.{takeAnswerTo}
 use Rattle.whole_device.specs.declared.calls.TakeAnswer.{TakeAnswer}
 use Rattle.whole_device.specs.declared.calls.Taken.the-variants as Take
 use Rattle.peripheral_machine.specs.Numbers.{flag}
@@ -26,9 +27,9 @@ pair-stored l i e h =
 -- what a take stores
 module _ (c d out : List ℕ) (a : TakeAnswer) where
   pub taken-is : (w v : ℕ) (mark : Bool) → a .verdict ≡ Take.Word w mark → d ≡ channelNumbers (a .channel) → v ≡ flag mark
-      → takeLeft 0 d (sets out 0 (w ∷ v ∷ [])) ≡ takeBy c out a
+      → takeLeft 0 d (sets out 0 (w ∷ v ∷ [])) ≡ takeBy c out (takeAnswerTo a)
   taken-is w v mark e h f = rw (e, h, f)
 
   pub taken-refused : (r : Refusal) (n : ℕ) → a .verdict ≡ Take.Refused r → n ≡ refusalNumber r
-      → takeLeft n c (sets out 0 (0 ∷ 0 ∷ [])) ≡ takeBy c out a
+      → takeLeft n c out ≡ takeBy c out (takeAnswerTo a)
   taken-refused r n e h = rw (e, h)

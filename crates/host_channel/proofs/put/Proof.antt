@@ -1,6 +1,6 @@
 -- `host_channel::put` meets its contract: the walk of `LoanWord`, at `whole_device::calls::put`.
 use mathlib.Core.Path.{_≡_}
-use Rattle.whole_device.specs.Device.{putOf, Puts}
+use Rattle.whole_device.specs.Device.{deviceAnswerTo, putOf, Puts}
 use Rattle.whole_device.proofs.calls.put.Symbol as g
 use Rattle.whole_device.proofs.calls.put.Met as g-thm
 use Rattle.whole_device.proofs.DeviceTypes.{types}
@@ -14,5 +14,5 @@ use Rattle.host_channel.proofs.put.Code as code
 pub put-spec : {M : Type 1} → stated.statement M
 unfolding code.routine
 put-spec 𝓤 H 𝓜 𝓖 𝓡 =
-    proved types loan Puts (λ c word r. r ≡ putOf c word) (λ c word v d e. e) g.name 𝓤 H 𝓜 𝓖 𝓡 code.env key.name g.routine
+    proved types loan Puts (λ c word r. deviceAnswerTo r ≡ putOf c word) (λ c word v d e. e) g.name 𝓤 H 𝓜 𝓖 𝓡 code.env key.name g.routine
     code.calls-whole-device·calls·put (code.unfolded 𝓤 H 𝓜 𝓡) (g-thm.met 𝓤 H 𝓜 𝓖 𝓡)

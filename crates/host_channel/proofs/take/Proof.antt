@@ -1,6 +1,6 @@
 -- `host_channel::take` meets its contract: the walk of `LoanAlone`, at `whole_device::calls::take`.
 use mathlib.Core.Path.{_≡_}
-use Rattle.whole_device.specs.Device.{takeOf, Takes}
+use Rattle.whole_device.specs.Device.{takeAnswerTo, takeOf, Takes}
 use Rattle.whole_device.proofs.calls.take.Symbol as g
 use Rattle.whole_device.proofs.calls.take.Met as g-thm
 use Rattle.whole_device.proofs.TakeTypes.{types}
@@ -14,5 +14,5 @@ use Rattle.host_channel.proofs.take.Code as code
 pub take-spec : {M : Type 1} → stated.statement M
 unfolding code.routine
 take-spec 𝓤 H 𝓜 𝓖 𝓡 =
-    proved types loan Takes (λ c r. r ≡ takeOf c) (λ c v d e. e) g.name 𝓤 H 𝓜 𝓖 𝓡 code.env key.name g.routine
+    proved types loan Takes (λ c r. takeAnswerTo r ≡ takeOf c) (λ c v d e. e) g.name 𝓤 H 𝓜 𝓖 𝓡 code.env key.name g.routine
     code.calls-whole-device·calls·take (code.unfolded 𝓤 H 𝓜 𝓡) (g-thm.met 𝓤 H 𝓜 𝓖 𝓡)

@@ -1,13 +1,13 @@
 -- Number 5 refuses what stands in the place of a slice that is no record: what is accepted has the length of a record.
-use mathlib.Core.Bool.{Bool, true, false, not, _&&_, cond}
+use mathlib.Core.Bool.{Bool, true, false, _&&_, cond}
 use mathlib.Core.List.{List}
-use mathlib.Core.Path.{_≡_, refl, ap}
+use mathlib.Core.Path.{_≡_, refl}
 use Prim.Native.Nat.{ℕ}
 use borrow.Author.Tests.{eqb-true}
-use lib.Dec.{ltb, eqb}
+use lib.Dec.{eqb}
 use lib.ListN.{length}
 use Rattle.base_logic.specs.Laws.Tests.{both}
-use Rattle.peripheral_channel.specs.declared.record.Channel.{Channel}
+use Rattle.peripheral_channel.specs.Fits.{channelFits}
 use Rattle.central_record.specs.Record.{recordFits}
 use Rattle.whole_record.specs.Record.{machineFits}
 use Rattle.host_record.specs.Lent.{flagsFit, allFlagsFit, refusedCentral, refusedChannel, refusedMachine, centralLent, channelLent, machineLent}
@@ -35,9 +35,8 @@ machine-length n r h =
     let t = chosen (machineFits n) (eqb (length r) 108 && allFlagsFit r) _ _ (no-machine n) h in
     eqb-true (length r) 108 (both (eqb (length r) 108) (allFlagsFit r) t .0)
 
-pub channel-length : (r : List ℕ) → ltb 4095 (channelLent r .word) ≡ false → length r ≡ 4
+pub channel-length : (r : List ℕ) → channelFits (channelLent r) ≡ true → length r ≡ 4
 unfolding channelLent refusedChannel
 channel-length r h =
-    let fits : Channel → Bool = λ c. not (ltb 4095 (c .word)) in
-    let t = chosen fits (eqb (length r) 4 && flagsFit r 0) _ refusedChannel refl (ap not h) in
+    let t = chosen channelFits (eqb (length r) 4 && flagsFit r 0) _ refusedChannel refl h in
     eqb-true (length r) 4 (both (eqb (length r) 4) (flagsFit r 0) t .0)

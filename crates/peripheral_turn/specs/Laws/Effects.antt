@@ -1,6 +1,7 @@
 -- The effect of every instruction names places that are there, and values of their widths. c is the central memory.
+use mathlib.Core.Bool.{true}
 use mathlib.Core.List.{List}
-use mathlib.Core.Path.{_≡_, refl}
+use mathlib.Core.Path.{_≡_}
 use Prim.Native.Nat.{ℕ, _+_, _-_, _/_, _%_, _^_, _<_}
 use native.Mathlib.Omega.{arith}
 use borrow.Author.Tests.{ltb-true}
@@ -10,15 +11,14 @@ use Rattle.word_arithmetic.specs.Bits.{bits, low}
 use Rattle.base_logic.specs.Laws.Choice.{of-cond}
 use Rattle.base_lists.specs.Laws.Each.{of-getD}
 use Rattle.word_fields.specs.Laws.Fields.{from-parts-lt}
-use Rattle.base_outcome.specs.declared.refusal.Verdict.{Verdict}
-use Rattle.base_outcome.specs.declared.refusal.Verdict.the-variants as Call
-use Rattle.exchange_jump.specs.Jump.{packageVerdict}
+use Rattle.exchange_jump.specs.Jump.{packageInside, packageClean, fieldInside, packageVerdict}
+use Rattle.exchange_jump.specs.Accepted.{PackageAccepted}
 use Rattle.exchange_jump.specs.Laws.Verdicts.{package-accepted}
 use Rattle.peripheral_machine.specs.Numbers.{centralP}
 use Rattle.peripheral_machine.specs.Widths.{NumbersWide, PeripheralSound}
 use Rattle.peripheral_machine.specs.declared.numbers.Processor.{Processor}
 use Rattle.peripheral_codes.specs.Addresses.{wordAt, onward, indexed}
-use Rattle.peripheral_io.specs.CentralSide.{exchangeBy, exchangeOf, readCentral, joined, writeCentral}
+use Rattle.peripheral_io.specs.CentralSide.{exchangeOf, readCentral, joined, writeCentral}
 use Rattle.peripheral_io.specs.Channels.{channelJump, changeOn}
 use Rattle.peripheral_turn.specs.Turn.{peripheralLeftOut, afterConstants, secondRowOf, centralWords, channelWords, sixthRowOf, seventhRowOf, peripheralRows, effectFrom, peripheralEffectOf}
 use Rattle.peripheral_codes.specs.Widths.{Memory, Held}
@@ -27,14 +27,19 @@ use Rattle.peripheral_codes.specs.Laws.Effects.{pass-sound, jump-sound, short-s
 use Rattle.peripheral_io.specs.Laws.Channels.{channel-jump-sound, input-from-sound, output-to-sound, change-on-sound}
 
 module _ (c : List ℕ) (q : Processor) (g : Held q) where
-  -- 26: a package that no fault refuses is accepted
-  exchange-by-sound : (v : Verdict) → packageVerdict c (q .a) ≡ v → PeripheralSound c (exchangeBy q v)
-  exchange-by-sound Call.Accepted e = (pass-sound c q g, package-accepted c (q .a) e)
-  exchange-by-sound (Call.Refused r) e = tt
+  -- 26: a package without a fault is accepted
+  no-fault : packageInside c (q .a) ≡ true → packageClean c (q .a) ≡ true → fieldInside c (q .a) ≡ true → PackageAccepted c (q .a)
+  unfolding packageVerdict
+  no-fault inside clean field = package-accepted c (q .a) (rw (inside, clean, field))
 
   pub exchange-sound : PeripheralSound c (exchangeOf c q)
   unfolding exchangeOf
-  exchange-sound = exchange-by-sound (packageVerdict c (q .a)) refl
+  exchange-sound =
+      of-cond (PeripheralSound c) (packageInside c (q .a))
+      (λ inside. of-cond (PeripheralSound c) (packageClean c (q .a))
+      (λ clean. of-cond (PeripheralSound c) (fieldInside c (q .a)) (λ field. (pass-sound c q g, no-fault inside clean field)) (λ e. tt))
+      (λ e. tt))
+      (λ e. tt)
 
   pub read-central-sound : (d : ℕ) → d < 64 → PeripheralSound c (readCentral c q d)
   unfolding readCentral

@@ -11,7 +11,8 @@ use Rattle.exchange_jump.specs.Jump.{recordAt, packageInside, packageClean, fie
 use Rattle.base_logic.specs.Laws.Tests.{both}
 use Rattle.base_lists.specs.Laws.Indexed.{all-at}
 use Rattle.exchange_jump.specs.Accepted.{HostAccepted, PackageAccepted}
-use Rattle.exchange_jump.specs.Laws.Verdicts.{by-test, host-accepted}
+use Rattle.base_outcome.specs.Laws.Verdict.{by-test}
+use Rattle.exchange_jump.specs.Laws.Verdicts.{host-accepted}
 use Rattle.base_lists.specs.Parts.{part}
 use Rattle.exchange_package.specs.Package.{hasStray}
 use Rattle.central_record.specs.Record.{hostVerdict}

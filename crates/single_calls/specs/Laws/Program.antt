@@ -6,9 +6,9 @@ use Prim.Native.Nat.{ℕ, _+_, _≤_, _<_}
 use lib.ListN.{length, getD}
 use Rattle.base_outcome.specs.declared.refusal.Refusal.the-variants as Because
 use Rattle.base_outcome.specs.declared.refusal.Verdict.the-variants as Call
-use Rattle.base_outcome.specs.Laws.Verdict.{either, both-accept}
+use Rattle.base_outcome.specs.Laws.Verdict.{either, both-accept, by-fault}
 use Rattle.exchange_jump.specs.Jump.{recordAt, packageVerdict}
-use Rattle.exchange_jump.specs.Laws.Verdicts.{by-fault, package-accepted}
+use Rattle.exchange_jump.specs.Laws.Verdicts.{package-accepted}
 use Rattle.central_record.specs.declared.record.Central.{Central}
 use Rattle.base_lists.specs.Overlap.{sharesWord}
 use Rattle.single_stint.specs.Stint.{stintOf, StintAccepted}

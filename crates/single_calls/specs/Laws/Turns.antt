@@ -11,11 +11,11 @@ use lib.ListN.{length}
 use Rattle.base_logic.specs.Laws.Choice.{of-cond}
 use Rattle.base_outcome.specs.declared.refusal.Refusal.the-variants as Because
 use Rattle.base_outcome.specs.declared.refusal.Verdict.the-variants as Call
-use Rattle.base_outcome.specs.Laws.Verdict.{either, both-accept}
+use Rattle.base_outcome.specs.Laws.Verdict.{either, both-accept, by-fault}
 use Rattle.central_record.specs.Record.{hostVerdict}
 use Rattle.central_record.specs.declared.record.Central.{Central}
 use Rattle.exchange_jump.specs.Accepted.{HostAccepted}
-use Rattle.exchange_jump.specs.Laws.Verdicts.{by-fault, host-accepted, of-host-accepted}
+use Rattle.exchange_jump.specs.Laws.Verdicts.{host-accepted, of-host-accepted}
 use Rattle.single_calls.specs.RecordCalls.{CentralMachine, centralMachine, turnedOnce, CentralAnswered, centralAnswerTo, centralAnswered, centralAnswerBy, turnAnswer}
 use Rattle.base_outcome.specs.Order.{orElse}
 use Rattle.single_calls.specs.Turns.{Turned, turnedTo, moreTurned, turnedUpTo, mostTurns, turnsVerdict, TurnsAnswered, turnsAnswerTo, turnsAnswered, turnsAnswerBy, turnsAnswer}

@@ -18,16 +18,16 @@ use Rattle.whole_rounds.specs.Rounds.{roundsRan, roundsOf}
 use Rattle.whole_processors.specs.Processors.{processorTurned, processorsTurned}
 use Rattle.whole_processors.specs.Laws.Processors.{processor-keeps, own-size, one-processor}
 use Rattle.whole_rounds.specs.Laws.Rounds.{run-keeps}
-use Rattle.whole_calls.specs.Call.{Left, left, leftBy, leftAfter, machineAnswerBy}
+use Rattle.whole_calls.specs.Call.{Left, left, leftBy, leftAfter, machineAnswered, machineAnswerBy}
 
 -- the answer of a call that is carried out, and of one that is refused
 module _ {A B : Type 0} (answer : Verdict → B → A) (v : Verdict) (lent after : Left B) where
   pub carried-out : v ≡ Call.Accepted → (o : Left B) → o ≡ after
-      → left (o .central) (o .peripheral) (answer Call.Accepted (o .value)) ≡ machineAnswerBy answer v lent after
+      → machineAnswered (o .central) (o .peripheral) Call.Accepted (answer Call.Accepted (o .value)) ≡ machineAnswerBy answer v lent after
   carried-out e o h = rw e (ap (machineAnswerBy answer Call.Accepted lent) h)
 
   pub machine-refused : (x : Refusal) → v ≡ Call.Refused x
-      → left (lent .central) (lent .peripheral) (answer (Call.Refused x) (lent .value)) ≡ machineAnswerBy answer v lent after
+      → machineAnswered (lent .central) (lent .peripheral) (Call.Refused x) (answer (Call.Refused x) (lent .value)) ≡ machineAnswerBy answer v lent after
   machine-refused x e = rw e
 
 module _ (c m : List ℕ) (r : MachineRecord) where

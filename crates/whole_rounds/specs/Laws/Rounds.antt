@@ -35,20 +35,6 @@ ended-keeps n l h kept o t =
 central-kept : (n : ℕ) (h : Machine) → MachineKept n h → CentralKept (length (h .central)) (centralTurnOf (h .central) (h .registers) (h .numbers))
 central-kept n h kept = central-keeps (h .central) (h .registers) (h .numbers) (kept .host) (kept .count) (kept .places) (kept .wide)
 
--- widths and lengths are kept
-pub round-keeps : (k : ℕ) → k ≤ 10 → (h : Machine) → MachineKept (k * 4096) h → MachineKept (k * 4096) (roundOf k h)
-unfolding roundOf
-round-keeps k few h kept =
-    let o = processorsTurned k 0 h in
-    let t = processors-keep k few k 0 (omega arith) h kept in
-    ended-keeps (k * 4096) _ o t (centralTurnOf (o .central) (o .registers) (o .numbers)) (central-kept (k * 4096) o t)
-
-pub round-length : (k : ℕ) → k ≤ 10 → (h : Machine) → MachineKept (k * 4096) h → length (roundOf k h .central) ≡ length (h .central)
-unfolding roundOf
-round-length k few h kept =
-    central-kept (k * 4096) (processorsTurned k 0 h) (processors-keep k few k 0 (omega arith) h kept) .long
-    ∙ processors-length k few k 0 (omega arith) h kept
-
 -- all k processors are there
 pub all-ready : (k : ℕ) → k ≤ 10 → (h : Machine) → MachineKept (k * 4096) h
     → MachineKept (length (h .peripheral)) h × (((0 + k) * 4096 ≤ length (h .peripheral)) × (0 + k ≤ 10))
@@ -71,6 +57,20 @@ module _ (k : ℕ) (few : k ≤ 10) (h : Machine) (kept : MachineKept (k * 4096)
         ap (machine (o .peripheral) (z .central) (z .registers)) es
         ∙ ap (roundEnded (o .peripheral)) ez
         ∙ ap afterProcessors e
+
+-- widths and lengths are kept
+pub round-keeps : (k : ℕ) → k ≤ 10 → (h : Machine) → MachineKept (k * 4096) h → MachineKept (k * 4096) (roundOf k h)
+unfolding roundOf
+round-keeps k few h kept =
+    let o = processorsTurned k 0 h in
+    let t = processors-keep k few k 0 (omega arith) h kept in
+    ended-keeps (k * 4096) _ o t (centralTurnOf (o .central) (o .registers) (o .numbers)) (central-kept (k * 4096) o t)
+
+pub round-length : (k : ℕ) → k ≤ 10 → (h : Machine) → MachineKept (k * 4096) h → length (roundOf k h .central) ≡ length (h .central)
+unfolding roundOf
+round-length k few h kept =
+    central-kept (k * 4096) (processorsTurned k 0 h) (processors-keep k few k 0 (omega arith) h kept) .long
+    ∙ processors-length k few k 0 (omega arith) h kept
 
 -- all are stopped, or one of them runs
 pub central-runs : (k : ℕ) (s : List ℕ) → centralStop s ≡ 0 → false ≡ allStopped k s

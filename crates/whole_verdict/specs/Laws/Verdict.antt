@@ -16,7 +16,7 @@ use Rattle.central_record.specs.Record.{wordsFit}
 use Rattle.base_lists.specs.Laws.Indexed.{all-of, getD-tabulate}
 use Rattle.central_record.specs.Laws.Record.{all-below, of-all-below}
 use Rattle.exchange_jump.specs.Accepted.{HostAccepted}
-use Rattle.exchange_jump.specs.Laws.Verdicts.{by-test, by-fault}
+use Rattle.base_outcome.specs.Laws.Verdict.{by-test, by-fault}
 use Rattle.base_outcome.specs.Laws.Verdict.{both-accept}
 use Rattle.peripheral_machine.specs.Machine.{Machine}
 use Rattle.peripheral_machine.specs.Numbers.{processorOf, channelOf, clockOf}

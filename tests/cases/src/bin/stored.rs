@@ -1,4 +1,5 @@
-//! Makes the stored cases on libhost_calls.a and compares each answer with the stored one.
+//! Makes the stored cases on libhost_calls.a and compares each answer with the stored one. Fails where
+//! one differs, or where something that `coverage` asks for is met by none of them.
 
 use cases::coverage::{Coverage, Seen};
 use cases::{answer, archive, generate, stored};
@@ -43,11 +44,14 @@ fn main() -> ExitCode {
             println!("stored: {line}\ngiven:  {given}");
         }
     }
-    // A file that was cut short leaves something out.
+    // Everything that a comparison has to meet is met by the stored cases too.
     let missing = coverage.missing();
     missing
         .iter()
         .for_each(|name| println!("never met: {name}"));
+    for (count, name) in coverage.rarest(1) {
+        println!("met least often: {name}, {count} times");
+    }
     println!("stored cases: {alike} alike, {different} different");
     if different == 0 && missing.is_empty() {
         ExitCode::SUCCESS

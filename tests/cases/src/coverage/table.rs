@@ -1,18 +1,21 @@
 //! The counts as text.
 
-use super::codes::{branch_name, Codes, WAITING};
-use super::conditions::CONDITIONS;
+use super::central_codes::{branch_name, CentralCodes};
+use super::conditions::conditions;
+use super::peripheral_codes::{PeripheralCodes, JUMPS, OF_CHANNELS};
 use super::{stops_of, Coverage, STOPS};
 use crate::case::{NAMES, REFUSALS};
+use crate::peripheral::channel_state::WAITING;
 use std::fmt;
 
 impl fmt::Display for Coverage {
     fn fmt(&self, f: &mut fmt::Formatter) -> fmt::Result {
         self.write_numbers(f)?;
         self.write_stops(f)?;
-        self.codes.fmt(f)?;
+        self.central.fmt(f)?;
+        self.peripheral.fmt(f)?;
         writeln!(f, "\nother conditions")?;
-        for (count, (name, _)) in self.conditions.iter().zip(CONDITIONS) {
+        for (count, (name, _)) in self.conditions.iter().zip(conditions()) {
             writeln!(f, "{count:>8}  {name}")?;
         }
         Ok(())
@@ -67,9 +70,9 @@ fn write_count(f: &mut fmt::Formatter, can: bool, count: u64) -> fmt::Result {
     }
 }
 
-impl fmt::Display for Codes {
+impl fmt::Display for CentralCodes {
     fn fmt(&self, f: &mut fmt::Formatter) -> fmt::Result {
-        write_codes(f, "central codes", &self.central)?;
+        write_codes(f, "central codes", &self.codes)?;
         writeln!(f, "{:>8}  01 with i not 0", self.unfit_return)?;
         writeln!(
             f,
@@ -81,13 +84,42 @@ impl fmt::Display for Codes {
             let end = if branch % 4 == 3 { "\n" } else { "" };
             write!(f, "{:>6}{went:>7}{stayed:>7}{end}", branch_name(branch))?;
         }
-        write_codes(f, "peripheral codes", &self.peripheral)?;
-        writeln!(f, "\nturns that waited")?;
-        for (code, count) in WAITING.iter().zip(self.waits) {
-            write!(f, "{code:>6o}{count:>7}")?;
-        }
-        writeln!(f)
+        Ok(())
     }
+}
+
+impl fmt::Display for PeripheralCodes {
+    fn fmt(&self, f: &mut fmt::Formatter) -> fmt::Result {
+        write_codes(f, "peripheral codes", &self.codes)?;
+        writeln!(f, "\nperipheral jumps: jumped, did not")?;
+        write_pairs(f, &JUMPS, &self.jumps)?;
+        writeln!(f, "\ncodes of channels: on 14, above 14")?;
+        write_pairs(f, &OF_CHANNELS, &self.past_channels)?;
+        writeln!(f, "\nturns that waited")?;
+        write_row(f, &WAITING, &self.waits)?;
+        writeln!(f, "\nwaits in a run that another processor ended")?;
+        write_row(f, &WAITING, &self.ended_waits)
+    }
+}
+
+/// Two counts for each code, four codes a row.
+fn write_pairs(f: &mut fmt::Formatter, codes: &[usize], counts: &[[u64; 2]]) -> fmt::Result {
+    let rows = codes.chunks(4).zip(counts.chunks(4));
+    for (codes, counts) in rows {
+        for (code, [one, other]) in codes.iter().zip(counts) {
+            write!(f, "    {code:02o}{one:>7}{other:>7}")?;
+        }
+        writeln!(f)?;
+    }
+    Ok(())
+}
+
+/// A count for each code.
+fn write_row(f: &mut fmt::Formatter, codes: &[usize], counts: &[u64]) -> fmt::Result {
+    for (code, count) in codes.iter().zip(counts) {
+        write!(f, "{code:>6o}{count:>7}")?;
+    }
+    writeln!(f)
 }
 
 /// Counts of 64 codes, a row for each first digit.

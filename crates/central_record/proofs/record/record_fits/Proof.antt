@@ -62,7 +62,7 @@ returns-6 c =
       lt-ltb (t .fl) (2 ^ 18) (omega arith),
       le-leb (t .ra + t .fl) n (omega arith),
       le-leb (t .stop) 5 (omega arith),
-      ne-eqb _ _ (c .if6 .taken),
+      ne-eqb _ 0 (c .if6 .taken),
     )
 
 returns-7 : tie.Need-returns-7

@@ -6,10 +6,10 @@ use Rattle.console_calls.proofs.whole.answer.Tie as tie
 
 returns : tie.Need-returns
 returns c =
-    let started = c .before .before .before .before .before .before .before .before .before .before .before .before .before .before .before .before .before .before .start .ensures in
-    let fed = c .before .before .before .before .before .before .before .before .before .before .before .before .before .feed .ensures .is in
-    whole-answer _ _ _ _ _ _ _ _ started
-    (record { memory = search needs; jobs = search needs; stintJobs = search needs; stintTurns = search needs }) fed (c .before .before .before .finish .ensures)
+    let s = c .before .before .before in
+    let fed = s .before .before .before .before .before .before .before .before .before .before .before in
+    whole-answer _ _ _ _ _ (fed .before .before .before .before .before .start .ensures)
+    (record { memory = search needs; jobs = search needs; stintJobs = search needs; stintTurns = search needs }) (fed .feed .ensures) (s .finish .ensures)
 
 pub answer-spec : {M : Type 1} → statement M
 answer-spec =

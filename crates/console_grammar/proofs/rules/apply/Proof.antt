@@ -1,7 +1,6 @@
 -- `console_grammar::rules::apply` meets its contract.
 use borrow.Author.Needs.{needs}
-use Rattle.console_grammar.specs.Laws.Refused.{applied-refused, unreadable-line}
-use Rattle.console_grammar.specs.Laws.Entries.{applied-line, applied-as}
+use Rattle.console_grammar.specs.Laws.Refused.{line-refused, unreadable-line}
 use Rattle.console_grammar.proofs.rules.apply.Statement.{statement}
 use Rattle.console_grammar.proofs.rules.apply.Tie as tie
 
@@ -27,28 +26,35 @@ on-stint-requires c κs =
     (pre .0, pre .1 .stintJobs, pre .1 .stintTurns)
 
 returns : tie.Need-returns
-returns c = applied-line _ (c .before .before .before .before .before .line .given .1) (c .before .before .on-words .ensures)
+returns c =
+    let s = c .before .before .before .before .before in
+    rw (s .line .given .1) (c .before .before .on-words .ensures _ (s .before .before .before .before .before .before .pre .1))
 
 returns-2 : tie.Need-returns-2
 returns-2 c =
     let pre = c .before .before .before .before .before .before .before .before .pre in
-    applied-line _ (c .before .before .line2 .given .1) (c .on-at .ensures _ (pre .1 .memory))
+    rw (c .before .before .line2 .given .1) (c .on-at .ensures _ _ (pre .1))
 
 returns-3 : tie.Need-returns-3
-returns-3 c = applied-line _ (c .before .before .before .before .before .line3 .given .1) (c .before .before .on-word .ensures)
+returns-3 c =
+    let s = c .before .before .before .before .before in
+    rw (s .line3 .given .1) (c .before .before .on-word .ensures _ (s .before .before .before .before .before .before .pre .1))
 
 returns-4 : tie.Need-returns-4
-returns-4 c = applied-as (c .before .before .before .before .before .line4 .given .1) (c .before .before .on-job .ensures _ _ _)
+returns-4 c =
+    let s = c .before .before .before .before .before in
+    rw (s .line4 .given .1) (c .before .before .on-job .ensures _ _ _ (s .before .before .before .before .before .before .pre .1))
 
 returns-5 : tie.Need-returns-5
 returns-5 c =
     let s = c .before .before .before .before in
-    applied-as (s .before .before .before .before .line5 .given .1) (s .on-stint .ensures _ _)
+    let t = s .before .before .before .before in
+    rw (t .line5 .given .1) (s .on-stint .ensures _ _ (t .before .before .before .before .before .before .pre .1))
 
 returns-6 : tie.Need-returns-6
 returns-6 c =
     let part = c .before .before .before .before .before .before .before .args .p .part in
-    applied-refused (c .refuse .ensures) (unreadable-line part _ (c .before .enum-told .given .1))
+    line-refused (c .refuse .ensures) (unreadable-line part _ (c .before .enum-told .given .1))
 
 pub apply-spec : {M : Type 1} → statement M
 apply-spec =

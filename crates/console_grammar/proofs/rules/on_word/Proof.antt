@@ -10,7 +10,7 @@ use Rattle.console_grammar.proofs.rules.on_word.Tie as tie
 returns : tie.Need-returns
 returns c =
     let pre = c .before .before .before .before .before .before .pre in
-    word-past (pre .0) (pre .1) (c .before .before .before .part .given .1) (omega (arith, c .before .if1 .taken)) (c .refuse .ensures)
+    word-past (pre .0) (c .before .before .before .part .given .1) (omega (arith, c .before .if1 .taken)) (c .refuse .ensures)
 
 slice-write-memory : tie.Need-slice-write-memory
 slice-write-memory c =
@@ -20,10 +20,10 @@ slice-write-memory c =
 returns-2 : tie.Need-returns-2
 returns-2 c =
     let pre = c .before .before .before .before .before .pre in
-    block-word-read (pre .0) (pre .1) (c .before .before .part .given .1) (omega (arith, c .if1 .left))
+    block-word-read (pre .0) (c .before .before .part .given .1) (omega (arith, c .if1 .left))
 
 returns-3 : tie.Need-returns-3
-returns-3 c = line-refused (c .refuse2 .ensures) (no-word (c .before .before .before .args .p .part) (c .before .match .keys2) _)
+returns-3 c = λ l room. line-refused (c .refuse2 .ensures) (no-word (c .before .before .before .args .p .part) (c .before .match .keys2) _)
 
 pub on-word-spec : {M : Type 1} → statement M
 on-word-spec =

@@ -6,7 +6,9 @@ use borrow.Author.Needs.{needs}
 use lib.ListN.{length}
 use lib.Seq.{length-take-le}
 use Rattle.console_grammar.specs.Held.{lists}
-use Rattle.console_reader.specs.Laws.Feeding.{FeedingOn, withLine, room-same, feeding-start, feeding-filled, feeding-line, feeding-end}
+use Rattle.console_reader.specs.Reader.{withLine}
+use Rattle.console_reader.specs.Laws.LineBytes.{filled-fits}
+use Rattle.console_reader.specs.Laws.Feeding.{FeedingOn, feeding-start, feeding-filled, feeding-line, feeding-end}
 use Rattle.console_reader.proofs.reader.feed_all.Statement.{statement}
 use Rattle.console_reader.proofs.reader.feed_all.Tie as tie
 
@@ -33,13 +35,15 @@ fill-requires c κs =
 
 array-share-prefix-line : tie.Need-array-share-prefix-line Inv-loop μ-loop
 array-share-prefix-line c =
-    let filled = c .before .fill .ensures in
-    omega (arith, filled .room, filled .long)
+    let ready = c .before .before .before .before .loop .inv .0 .ready in
+    let fits = filled-fits (c .before .fill .ensures) (ready .begun) (ready .long) in
+    omega (arith, fits .begun, fits .long)
 
 slice-aggregate-line-of : tie.Need-slice-aggregate-line-of Inv-loop μ-loop
 slice-aggregate-line-of c =
-    let filled = c .before .before .fill .ensures in
-    sym (length-take-le _ _ (omega (arith, filled .room, filled .long)))
+    let ready = c .before .before .before .before .before .loop .inv .0 .ready in
+    let fits = filled-fits (c .before .before .fill .ensures) (ready .begun) (ready .long) in
+    sym (length-take-le _ _ (omega (arith, fits .begun, fits .long)))
 
 apply-requires : tie.Need-apply-requires Inv-loop μ-loop
 apply-requires c κs =
@@ -62,9 +66,8 @@ loop-again c =
     let line = s .before .before .before .before .before in
     let filled = line .before .before .before in
     let inv = filled .before .before .before .loop .inv in
-    let kept = s .apply .kept .1 .1 in
-    let room = room-same (inv .0 .ready .room) (kept .0) (kept .1 .0) (kept .1 .1 .0) (kept .1 .1 .1 .0) in (
-      feeding-line (inv .0) (filled .fill .ensures) (line .before .before .if1 .taken) (line .line-of .ensures) (s .apply .ensures) room,
+    let kept = s .apply .kept .1 .1 in (
+      feeding-line (inv .0) (filled .fill .ensures) (line .before .before .if1 .taken) (line .line-of .ensures) (s .apply .ensures),
       kept .0 ∙ inv .1,
       kept .1 .0 ∙ inv .2,
       kept .1 .1 .0 ∙ inv .3,

@@ -27,5 +27,4 @@ pub keep-taken-spec : {M : Type 1} → statement M
 keep-taken-spec =
     tie.close
     (tie.spec (λ c. search needs) store-channel-requires (λ c. search needs) (λ c κs. search needs) (λ c. search needs)
-    (λ c. search needs) (λ c. search needs) (λ c. search needs) (λ c κs. search needs) (λ c. search needs)
-    (λ c. search needs) returns (λ c. search needs) returns-2)
+    (λ c. search needs) (λ c κs. search needs) (λ c. search needs) (λ c. search needs) returns returns-2)

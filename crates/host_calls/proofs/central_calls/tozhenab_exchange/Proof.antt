@@ -15,7 +15,7 @@ returns c =
     let central-lent = c .before .before .before .before .before .before .before .before .before .central-lent in
     let keep-central = c .before .before .keep-central in
     let exchange = c .before .before .before .before .before .before .before .exchange in
-    exchange-is _ _ _ _ (central-lent .ensures) _ _ _ (keep-central .ensures) _ (exchange .ensures)
+    exchange-is _ _ _ _ (central-lent .ensures) (exchange .result) _ _ (keep-central .ensures) _ (exchange .ensures)
 
 pub tozhenab-exchange-spec : {M : Type 1} → statement M
 tozhenab-exchange-spec =

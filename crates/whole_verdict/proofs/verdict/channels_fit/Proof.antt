@@ -1,9 +1,9 @@
 -- `whole_verdict::verdict::channels_fit` meets its contract.
-use Prim.Native.Nat.{_-_, _^_}
+use Prim.Native.Nat.{_-_}
 use native.Mathlib.Omega.{arith}
-use borrow.Author.Tests.{lt-ltb, le-ltb}
+use Rattle.base_logic.specs.Laws.Tests.{holds, fails}
 use Rattle.base_lists.specs.Laws.Indexed.{Passed, none-yet, one-more, all-passed, one-fails}
-use Rattle.whole_record.specs.Record.{channelAt, channelFitsAt, channelsFit}
+use Rattle.whole_record.specs.Record.{channelFitsAt, channelsFit}
 use Rattle.whole_verdict.proofs.verdict.channels_fit.Statement.{statement}
 use Rattle.whole_verdict.proofs.verdict.channels_fit.Tie as tie
 
@@ -23,7 +23,7 @@ returns c =
     let i = c .before .before .before .before .loop .i in
     one-fails (channelFitsAt l) 12 i
     (c .before .before .before .loop-test .taken)
-    (le-ltb (channelAt l i .word) (2 ^ 12) (omega arith))
+    (fails (c .before .channel-fits .ensures) (c .if1 .taken))
 
 loop-again : tie.Need-loop-again Inv-loop μ-loop
 loop-again c =
@@ -32,7 +32,7 @@ loop-again c =
     one-more (channelFitsAt l) 12 i
     (c .before .before .before .before .loop .inv)
     (c .before .before .before .loop-test .taken)
-    (lt-ltb (channelAt l i .word) (2 ^ 12) (omega arith))
+    (holds (c .before .channel-fits .ensures) (c .if1 .left))
 
 returns-2 : tie.Need-returns-2 Inv-loop μ-loop
 unfolding channelsFit
@@ -41,5 +41,5 @@ returns-2 c = all-passed _ _ _ (c .before .loop .inv) (c .loop-test .left)
 pub channels-fit-spec : {M : Type 1} → statement M
 channels-fit-spec =
     tie.close
-    (tie.spec Inv-loop μ-loop loop-holds (λ c. omega arith) (λ c. omega arith) returns (λ c. omega arith)
+    (tie.spec Inv-loop μ-loop loop-holds (λ c. omega arith) (λ c. omega arith) (λ c κs. omega arith) returns (λ c. omega arith)
     (λ c. omega arith) loop-again returns-2)
