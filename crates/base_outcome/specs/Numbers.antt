@@ -1,6 +1,8 @@
 -- The number that document 01 gives to each refusal ("Who can be turned down") and each stop ("Central turn", "Peripheral turn").
 -- "Where an answer is an enum, a definition tells you this paper's number and values for each of its cases. The promises use that definition."
+use mathlib.Core.Bool.{Bool, _&&_, _||_}
 use Prim.Native.Nat.{ℕ}
+use lib.Dec.{eqb, leb}
 use Rattle.base_outcome.specs.declared.refusal.Refusal.{Refusal}
 use Rattle.base_outcome.specs.declared.refusal.Refusal.the-variants as Refused
 use Rattle.base_outcome.specs.declared.refusal.Verdict.{Verdict}
@@ -57,6 +59,10 @@ centralStopNumber Central.UnfitCode = 4
 -- 5 a 30-bit code begun in the last parcel
 centralStopNumber Central.LastParcel = 5
 
+-- the stops that a central record may hold: 0, for none, or 1 to 5; any other is "a stop not listed for that processor"
+abbrev pub centralStopListed : ℕ → Bool
+centralStopListed n = leb n 5
+
 abbrev pub peripheralStopNumber : PeripheralStop → ℕ
 -- 31 central address of 60 or 62 at or past the end
 peripheralStopNumber Peripheral.CentralAddress = 31
@@ -68,3 +74,7 @@ peripheralStopNumber Peripheral.StrayBits = 34
 peripheralStopNumber Peripheral.FieldPastEnd = 35
 -- 36 codes left out
 peripheralStopNumber Peripheral.UnfitCode = 36
+
+-- the stops that the record of a peripheral processor may hold: 0, for none, or 31 to 36
+abbrev pub peripheralStopListed : ℕ → Bool
+peripheralStopListed n = eqb n 0 || (leb 31 n && leb n 36)

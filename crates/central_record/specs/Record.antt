@@ -6,6 +6,7 @@ use mathlib.Core.Path.{_≡_}
 use lib.Dec.{ltb, leb, eqb}
 use lib.ListN.{length, getD}
 use Rattle.word_arithmetic.specs.Bits.{bits}
+use Rattle.base_outcome.specs.Numbers.{centralStopListed}
 use Rattle.base_outcome.specs.declared.refusal.Refusal.the-variants as Refusal
 use Rattle.base_outcome.specs.declared.refusal.Verdict.{Verdict}
 use Rattle.base_outcome.specs.declared.refusal.Verdict.the-variants as Call
@@ -28,14 +29,14 @@ unfoldable pub registersFit : List ℕ → Bool
 registersFit registers = allBelow 24 (registerFits registers)
 
 -- 5 "record value over its width, a stop not listed for that processor, stray EM bit, nonzero B0, or RA + FL past the memory":
--- none of these. P, RA and FL have 18 bits, the central stops are 1 to 5, and 0 is none.
+-- none of these. P, RA and FL have 18 bits.
 unfoldable pub recordFits : ℕ → Central → Bool
 recordFits words c =
     ltb (c .p) (2 ^ 18)
     && ltb (c .ra) (2 ^ 18)
     && ltb (c .fl) (2 ^ 18)
     && leb (c .ra + c .fl) words
-    && leb (c .stop) 5
+    && centralStopListed (c .stop)
     && eqb (bOf (c .registers) 0) 0
     && emFits (c .em)
     && registersFit (c .registers)

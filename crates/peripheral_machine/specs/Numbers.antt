@@ -1,10 +1,10 @@
 -- The machine's record, but for the central processor's 24 registers, as one list of 84 numbers: P, A and stop of ten peripheral processors
 -- at 0, 10 and 20; active, full, mark and word of twelve channels at 30, 42, 54 and 66; P, RA, FL, EM and stop of the central processor
 -- at 78 to 82; the clock at 83.
-use mathlib.Core.Bool.{Bool, cond, _&&_, _||_}
+use mathlib.Core.Bool.{Bool, cond}
 use mathlib.Core.List.{List}
 use Prim.Native.Nat.{ℕ, _+_}
-use lib.Dec.{eqb, leb}
+use lib.Dec.{eqb}
 use lib.ListN.{getD, set}
 use Rattle.base_outcome.specs.Numbers.{peripheralStopNumber}
 use Rattle.base_outcome.specs.declared.stop.PeripheralStop.{PeripheralStop}
@@ -19,10 +19,6 @@ processorOf s n = record { p = getD s n 0; a = getD s (10 + n) 0; stop = getD s 
 -- a new P and A of processor n
 abbrev pub advanced : List ℕ → ℕ → ℕ → ℕ → List ℕ
 advanced s n p a = set (set s n p) (10 + n) a
-
--- the stops that a peripheral processor's record may hold: 0, for none, or 31 to 36; any other is "a stop not listed for that processor"
-abbrev pub stopListed : ℕ → Bool
-stopListed v = eqb v 0 || (leb 31 v && leb v 36)
 
 -- a new stop of processor n
 abbrev pub stopped : List ℕ → ℕ → PeripheralStop → List ℕ

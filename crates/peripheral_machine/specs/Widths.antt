@@ -5,11 +5,12 @@ use mathlib.Core.Path.{_≡_}
 use Prim.Native.Nat.{ℕ, _^_, _<_}
 use lib.Dec.{ltb}
 use lib.ListN.{getD, length}
+use Rattle.base_outcome.specs.Numbers.{peripheralStopListed}
 use Rattle.peripheral_channel.specs.Laws.Width.{ChannelFits}
 use Rattle.exchange_jump.specs.Accepted.{HostAccepted, PackageAccepted}
 use Rattle.peripheral_machine.specs.declared.effect.PeripheralEffect.{PeripheralEffect}
 use Rattle.peripheral_machine.specs.declared.effect.PeripheralEffect.the-variants.{Advance, Store, ReadCentral, WriteCentral, SetChannel, Exchange, Wait, Stop}
-use Rattle.peripheral_machine.specs.Numbers.{stopListed, centralOf}
+use Rattle.peripheral_machine.specs.Numbers.{centralOf}
 use Rattle.peripheral_machine.specs.Machine.{Machine}
 
 -- what the record may hold at place i, but for the flags, which are 0 or 1, and the central processor's numbers
@@ -17,7 +18,7 @@ unfoldable pub numberFits : ℕ → ℕ → Bool
 numberFits i v =
     cond (ltb i 10) (ltb v (2 ^ 12))
     (cond (ltb i 20) (ltb v (2 ^ 18))
-    (cond (ltb i 30) (stopListed v)
+    (cond (ltb i 30) (peripheralStopListed v)
     (cond (ltb i 66) true
     (cond (ltb i 78) (ltb v (2 ^ 12))
     (cond (ltb i 83) true (ltb v (2 ^ 12)))))))

@@ -10,7 +10,7 @@ use Rattle.peripheral_channel.specs.Fits.{channelFits}
 use Rattle.peripheral_channel.specs.declared.record.Channel.{Channel}
 use Rattle.base_lists.specs.Indexed.{allBelow}
 use Rattle.central_record.specs.Record.{recordFits}
-use Rattle.peripheral_machine.specs.Numbers.{stopListed}
+use Rattle.base_outcome.specs.Numbers.{peripheralStopListed}
 use Rattle.peripheral_machine.specs.declared.numbers.Processor.{Processor}
 use Rattle.whole_record.specs.declared.record.MachineRecord.{MachineRecord}
 
@@ -24,9 +24,9 @@ processorAt l n = getD l n idle
 abbrev pub channelAt : List Channel → ℕ → Channel
 channelAt l i = getD l i disconnected
 
--- "P counts modulo 4096", "A by the 18-bit sum", and the peripheral stops are 31 to 36
+-- "P counts modulo 4096", "A by the 18-bit sum", and a stop that is listed
 unfoldable pub processorFits : Processor → Bool
-processorFits q = ltb (q .p) (2 ^ 12) && ltb (q .a) (2 ^ 18) && stopListed (q .stop)
+processorFits q = ltb (q .p) (2 ^ 12) && ltb (q .a) (2 ^ 18) && peripheralStopListed (q .stop)
 
 abbrev pub processorFitsAt : List Processor → ℕ → Bool
 processorFitsAt l n = processorFits (processorAt l n)

@@ -1,9 +1,14 @@
--- No two refusals have one number, nor do two verdicts, nor two stops of one processor.
+-- No two refusals have one number, nor do two verdicts, nor two stops of one processor; a record may hold the numbers of its processor's stops, 0,
+-- and no other.
+use mathlib.Core.Bool.{true}
 use mathlib.Core.List.{List, [], _∷_}
+use mathlib.Core.Logic.{_⊎_, inl, inr, ⊎-elim}
 use mathlib.Core.Path.{_≡_, refl, sym, ap, _∙_}
-use Prim.Native.Nat.{ℕ, _-_}
+use Prim.Native.Nat.{ℕ, zero, suc, _+_, _-_, _<_}
 use native.Mathlib.Omega.{arith}
+use borrow.Author.Tests.{leb-true, eqb-true}
 use lib.ListN.{getD}
+use Rattle.base_logic.specs.Laws.Tests.{both, one-of}
 use Rattle.base_outcome.specs.declared.refusal.Refusal.{Refusal}
 use Rattle.base_outcome.specs.declared.refusal.Refusal.the-variants as Refused
 use Rattle.base_outcome.specs.declared.refusal.Verdict.{Verdict}
@@ -12,7 +17,7 @@ use Rattle.base_outcome.specs.declared.stop.CentralStop.{CentralStop}
 use Rattle.base_outcome.specs.declared.stop.CentralStop.the-variants as Central
 use Rattle.base_outcome.specs.declared.stop.PeripheralStop.{PeripheralStop}
 use Rattle.base_outcome.specs.declared.stop.PeripheralStop.the-variants as Peripheral
-use Rattle.base_outcome.specs.Numbers.{refusalNumber, verdictNumber, centralStopNumber, peripheralStopNumber}
+use Rattle.base_outcome.specs.Numbers.{refusalNumber, verdictNumber, centralStopNumber, centralStopListed, peripheralStopNumber, peripheralStopListed}
 
 -- a number from which the case can be had again is the number of no other case
 distinct : {A : Type 0} (number : A → ℕ) (case : ℕ → A) → ((a : A) → case (number a) ≡ a) → (a b : A) → number a ≡ number b → a ≡ b
@@ -91,6 +96,28 @@ central-stop-again Central.LastParcel = refl
 pub central-stops-distinct : (s t : CentralStop) → centralStopNumber s ≡ centralStopNumber t → s ≡ t
 central-stops-distinct = distinct centralStopNumber centralStopOf central-stop-again
 
+-- the stops listed are the numbers of all stops, and 0
+pub central-stop-listed : (s : CentralStop) → centralStopListed (centralStopNumber s) ≡ true
+central-stop-listed Central.Halt = refl
+central-stop-listed Central.OperandOutside = refl
+central-stop-listed Central.FetchOutside = refl
+central-stop-listed Central.UnfitCode = refl
+central-stop-listed Central.LastParcel = refl
+
+numbered-from-1 : (k : ℕ) → k < 5 → (s : CentralStop) × (centralStopNumber s ≡ 1 + k)
+numbered-from-1 zero h = (Central.Halt, refl)
+numbered-from-1 (suc zero) h = (Central.OperandOutside, refl)
+numbered-from-1 (suc (suc zero)) h = (Central.FetchOutside, refl)
+numbered-from-1 (suc (suc (suc zero))) h = (Central.UnfitCode, refl)
+numbered-from-1 (suc (suc (suc (suc zero)))) h = (Central.LastParcel, refl)
+numbered-from-1 (suc (suc (suc (suc (suc k))))) h = absurd (omega arith)
+
+pub central-listed-stop : (n : ℕ) → centralStopListed n ≡ true → (n ≡ 0) ⊎ ((s : CentralStop) × (centralStopNumber s ≡ n))
+central-listed-stop zero h = inl refl
+central-listed-stop (suc n) h =
+    let most = leb-true (suc n) _ h in
+    let s = numbered-from-1 n (omega (arith, most)) in inr (s .0, s .1 ∙ omega arith)
+
 abbrev peripheralStops : List PeripheralStop
 peripheralStops =
     Peripheral.CentralAddress
@@ -114,3 +141,30 @@ peripheral-stop-again Peripheral.UnfitCode = refl
 
 pub peripheral-stops-distinct : (s t : PeripheralStop) → peripheralStopNumber s ≡ peripheralStopNumber t → s ≡ t
 peripheral-stops-distinct = distinct peripheralStopNumber peripheralStopOf peripheral-stop-again
+
+pub peripheral-stop-listed : (s : PeripheralStop) → peripheralStopListed (peripheralStopNumber s) ≡ true
+peripheral-stop-listed Peripheral.CentralAddress = refl
+peripheral-stop-listed Peripheral.NoChannel = refl
+peripheral-stop-listed Peripheral.PackagePastEnd = refl
+peripheral-stop-listed Peripheral.StrayBits = refl
+peripheral-stop-listed Peripheral.FieldPastEnd = refl
+peripheral-stop-listed Peripheral.UnfitCode = refl
+
+numbered-from-31 : (k : ℕ) → k < 6 → (s : PeripheralStop) × (peripheralStopNumber s ≡ 31 + k)
+numbered-from-31 zero h = (Peripheral.CentralAddress, refl)
+numbered-from-31 (suc zero) h = (Peripheral.NoChannel, refl)
+numbered-from-31 (suc (suc zero)) h = (Peripheral.PackagePastEnd, refl)
+numbered-from-31 (suc (suc (suc zero))) h = (Peripheral.StrayBits, refl)
+numbered-from-31 (suc (suc (suc (suc zero)))) h = (Peripheral.FieldPastEnd, refl)
+numbered-from-31 (suc (suc (suc (suc (suc zero))))) h = (Peripheral.UnfitCode, refl)
+numbered-from-31 (suc (suc (suc (suc (suc (suc k)))))) h = absurd (omega arith)
+
+pub peripheral-listed-stop : (n : ℕ) → peripheralStopListed n ≡ true → (n ≡ 0) ⊎ ((s : PeripheralStop) × (peripheralStopNumber s ≡ n))
+peripheral-listed-stop n h =
+    ⊎-elim (λ e. inl (eqb-true n 0 e))
+    (λ e.
+    let l = both _ _ e in
+    let least = leb-true _ n (l .0) in
+    let most = leb-true n _ (l .1) in
+    let s = numbered-from-31 (n - 31) (omega (arith, least, most)) in inr (s .0, s .1 ∙ omega (arith, least, most)))
+    (one-of _ _ h)

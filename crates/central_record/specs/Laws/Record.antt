@@ -10,6 +10,7 @@ use lib.Dec.{ltb, leb, eqb, lit<, leb·suc-suc}
 use lib.ListN.{length, getD, List·getD-eq-default}
 use Rattle.word_arithmetic.specs.Bits.{bits}
 use Rattle.base_logic.specs.Laws.Choice.{le-or-lt}
+use Rattle.base_outcome.specs.Numbers.{centralStopListed}
 use Rattle.central_registers.specs.Registers.{aOf, bOf, xOf}
 use Rattle.central_record.specs.declared.record.Central.{Central}
 use Rattle.base_lists.specs.Indexed.{allBelow}
@@ -51,7 +52,7 @@ module _ (c : Central) (w : FitsPackage c) where
 pub record RecordFits (n : ℕ) (c : Central) : Type 0 where
   pub fits-package : FitsPackage c
   pub field : c .ra + c .fl ≤ n
-  pub stop : c .stop ≤ 5
+  pub stop : centralStopListed (c .stop) ≡ true
 
 pub fits : (n : ℕ) (c : Central) → recordFits n c ≡ true → RecordFits n c
 unfolding recordFits registersFit
@@ -59,7 +60,7 @@ fits n c h =
     let h₇ = both _ (registersFit (c .registers)) h in
     let h₆ = both _ (emFits (c .em)) (h₇ .0) in
     let h₅ = both _ (eqb (bOf (c .registers) 0) 0) (h₆ .0) in
-    let h₄ = both _ (leb (c .stop) 5) (h₅ .0) in
+    let h₄ = both _ (centralStopListed (c .stop)) (h₅ .0) in
     let h₃ = both _ (leb (c .ra + c .fl) n) (h₄ .0) in
     let h₂ = both (ltb (c .p) (2 ^ 18) && ltb (c .ra) (2 ^ 18)) (ltb (c .fl) (2 ^ 18)) (h₃ .0) in
     let h₁ = both (ltb (c .p) (2 ^ 18)) (ltb (c .ra) (2 ^ 18)) (h₂ .0) in
@@ -75,7 +76,7 @@ fits n c h =
             b0-zero = eqb-true (bOf (c .registers) 0) 0 (h₅ .1);
           };
       field = leb-true (c .ra + c .fl) n (h₃ .1);
-      stop = leb-true (c .stop) 5 (h₄ .1);
+      stop = h₄ .1;
     }
 
 pub of-fits : (n : ℕ) (c : Central) → RecordFits n c → recordFits n c ≡ true
@@ -87,7 +88,7 @@ of-fits n c f =
       lt-ltb (c .ra) (2 ^ 18) (w .ra-width),
       lt-ltb (c .fl) (2 ^ 18) (w .fl-width),
       le-leb (c .ra + c .fl) n (f .field),
-      le-leb (c .stop) 5 (f .stop),
+      f .stop,
       eq-eqb (bOf (c .registers) 0) 0 (w .b0-zero),
       w .em-fits,
     )

@@ -7,6 +7,7 @@ use native.Mathlib.Omega.{arith}
 use borrow.Author.Tests.{eq-eqb, ne-eqb, eqb-true, eqb-false}
 use lib.Dec.{eqb, lit≤}
 use Rattle.base_logic.specs.Laws.Choice.{of-cond}
+use Rattle.base_outcome.specs.Numbers.{centralStopListed}
 use Rattle.central_apply.specs.State.{State}
 use Rattle.central_turn.specs.Turn.{Turn, turnOf, Run, ran, runEnd, turnsBefore, turnsOf}
 use Rattle.central_apply.specs.Widths.{StateKept}
@@ -84,12 +85,12 @@ module _ (b : Bounds) (room : b .fl ≤ 131072) (n p₀ : ℕ) (s₀ s : State) 
 pub record RunKept (n : ℕ) (o : Run) : Type 0 where
   pub kept : StateKept n (o .state)
   pub p : o .end .p < 2 ^ 18
-  pub stop : o .end .stop ≤ 5
+  pub stop : centralStopListed (o .end .stop) ≡ true
 
 module _ (n : ℕ) (b : Bounds) (room : b .fl ≤ 131072) where
   pub run-left : (k p : ℕ) (s : State) → p < 2 ^ 18 → StateKept n s → RunKept n (turnsOf k b p s)
   unfolding turnsOf
-  run-left zero p s h kept = record { kept = kept; p = h; stop = lit≤ tt }
+  run-left zero p s h kept = record { kept = kept; p = h; stop = refl }
   run-left (suc k) p s h kept =
       let t = turn-left n b room p s h kept in
       of-cond (RunKept n) (eqb (turnOf b p s .end .stop) 0)

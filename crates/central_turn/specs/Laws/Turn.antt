@@ -1,13 +1,13 @@
 -- A turn as a loop over the parcels, and what it keeps.
+use mathlib.Core.Bool.{true}
 use mathlib.Core.Path.{_≡_, refl, sym, ap, subst, _∙_}
 use Prim.Native.Nat.{ℕ, zero, suc, _+_, _^_, _≤_, _<_}
 use native.Mathlib.Omega.{arith}
 use borrow.Author.Tests.{lt-ltb, le-ltb, ltb-true}
-use lib.Dec.{ltb, lit≤}
+use lib.Dec.{ltb}
 use Rattle.base_logic.specs.Laws.Choice.{of-cond}
-use Rattle.base_outcome.specs.declared.stop.CentralStop.the-variants as Because
-use Rattle.base_outcome.specs.Numbers.{centralStopNumber}
-use Rattle.base_outcome.specs.declared.stop.CentralStop.{CentralStop}
+use Rattle.base_outcome.specs.Numbers.{centralStopListed}
+use Rattle.base_outcome.specs.Laws.Numbers.{central-stop-listed}
 use Rattle.central_apply.specs.declared.apply.Step.the-variants as Then
 use Rattle.central_apply.specs.State.{State}
 use Rattle.central_field.specs.Address.{placeOf}
@@ -87,36 +87,29 @@ module _ (b : Bounds) (p w : ℕ) (room : b .fl ≤ 131072) (inside : p < b .fl)
 pub record TurnKept (n : ℕ) (t : Turn) : Type 0 where
   pub kept : StateKept n (t .state)
   pub p : t .end .p < 2 ^ 18
-  pub stop : t .end .stop ≤ 5
-
-stop-listed : (c : CentralStop) → centralStopNumber c ≤ 5
-stop-listed Because.Halt = lit≤ tt
-stop-listed Because.OperandOutside = lit≤ tt
-stop-listed Because.FetchOutside = lit≤ tt
-stop-listed Because.UnfitCode = lit≤ tt
-stop-listed Because.LastParcel = lit≤ tt
+  pub stop : centralStopListed (t .end .stop) ≡ true
 
 module _ (n : ℕ) (b : Bounds) (room : b .fl ≤ 131072) where
   go-on-left : (p place : ℕ) → p < 2 ^ 18 → (rest : State → ℕ → Turn) → ((s : State) (k : ℕ) → StateKept n s → TurnKept n (rest s k))
       → (s : State) (o : Step) → StateKept n s → Later place o → TurnKept n (goOn p rest s o)
   go-on-left p place h rest r s (Then.Next k) kept l = r s k kept
-  go-on-left p place h rest r s (Then.Branch t) kept l = record { kept = kept; p = l; stop = lit≤ tt }
-  go-on-left p place h rest r s (Then.Stop c) kept l = record { kept = kept; p = h; stop = stop-listed c }
+  go-on-left p place h rest r s (Then.Branch t) kept l = record { kept = kept; p = l; stop = refl }
+  go-on-left p place h rest r s (Then.Stop c) kept l = record { kept = kept; p = h; stop = central-stop-listed c }
 
   parcels-left : (p w : ℕ) → p < b .fl → (most : ℕ) (s : State) (place : ℕ) → StateKept n s → TurnKept n (parcelsRun most b p w s place)
   unfolding parcelsRun
-  parcels-left p w h zero s place k = record { kept = k; p = omega arith; stop = lit≤ tt }
+  parcels-left p w h zero s place k = record { kept = k; p = omega arith; stop = refl }
   parcels-left p w h (suc most) s place k =
       of-cond (TurnKept n) (ltb place 4)
       (λ e.
       go-on-left p place (omega arith) (parcelsRun most b p w) (parcels-left p w h most) _ (stepOf s b p w place .step)
       (step-keeps n s b p w place (omega arith) k)
       (step-reaches n s b p w place (omega arith) room k))
-      (λ e. record { kept = k; p = omega arith; stop = lit≤ tt })
+      (λ e. record { kept = k; p = omega arith; stop = refl })
 
   pub turn-left : (p : ℕ) (s : State) → p < 2 ^ 18 → StateKept n s → TurnKept n (turnOf b p s)
   unfolding turnOf placeOf
   turn-left p s h k =
       of-cond (λ (x : Place). TurnKept n (fetched b p s x)) (ltb p (b .fl))
       (λ e. parcels-left p _ (ltb-true p (b .fl) e) 4 s 0 k)
-      (λ e. record { kept = k; p = h; stop = lit≤ tt })
+      (λ e. record { kept = k; p = h; stop = refl })

@@ -226,7 +226,7 @@ module _ (w : List ℕ) (k : NoStray w) (words : (i : ℕ) → getD w i 0 < 2 ^ 
 
   -- and passes number 5 where its field ends in memory
   pub package-record-fits : (n : ℕ) → packageRecord w .ra + packageRecord w .fl ≤ n → recordFits n (packageRecord w) ≡ true
-  package-record-fits n h = of-fits n (packageRecord w) (record { fits-package = record-fits-package; field = h; stop = omega (arith, stop-of-package w) })
+  package-record-fits n h = of-fits n (packageRecord w) (record { fits-package = record-fits-package; field = h; stop = rw (stop-of-package w) })
 
 -- the package of a record that fits has no stray bits, and words of 60 bits
 module _ (c : Central) (w : FitsPackage c) where

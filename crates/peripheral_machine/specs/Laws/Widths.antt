@@ -9,13 +9,13 @@ use borrow.Author.Tests.{ltb-true, lt-ltb, le-ltb}
 use lib.Dec.{ltb}
 use lib.ListN.{getD, set, length, length-set}
 use lib.Seq.{getD-set-same, getD-set-other, set-getD}
-use Rattle.base_outcome.specs.Numbers.{peripheralStopNumber}
+use Rattle.base_outcome.specs.Numbers.{peripheralStopNumber, peripheralStopListed}
+use Rattle.base_outcome.specs.Laws.Numbers.{peripheral-stop-listed}
 use Rattle.base_outcome.specs.declared.stop.PeripheralStop.{PeripheralStop}
-use Rattle.base_outcome.specs.declared.stop.PeripheralStop.the-variants as Peripheral
 use Rattle.peripheral_channel.specs.Laws.Width.{ChannelFits}
 use Rattle.peripheral_channel.specs.declared.record.Channel.{Channel}
 use Rattle.central_record.specs.declared.record.Central.{Central}
-use Rattle.peripheral_machine.specs.Numbers.{processorOf, stopListed, advanced, stopped, flag, channelOf, withChannel, centralOf, withControls, withCentral, clockOf}
+use Rattle.peripheral_machine.specs.Numbers.{processorOf, advanced, stopped, flag, channelOf, withChannel, centralOf, withControls, withCentral, clockOf}
 use Rattle.peripheral_machine.specs.Widths.{numberFits, NumbersWide}
 
 -- what holds of the new value at its place, and of the value at place j before, holds of the value at j after
@@ -40,7 +40,7 @@ module _ (i v : ℕ) where
   unfolding numberFits
   at-a g h = rw (le-ltb i 10 g, lt-ltb i 20 h)
 
-  pub at-stop : 20 ≤ i → i < 30 → numberFits i v ≡ stopListed v
+  pub at-stop : 20 ≤ i → i < 30 → numberFits i v ≡ peripheralStopListed v
   unfolding numberFits
   at-stop g h = rw (le-ltb i 10 (omega arith), le-ltb i 20 g, lt-ltb i 30 h)
 
@@ -86,7 +86,7 @@ module _ (s : List ℕ) (w : NumbersWide s) where
     ltb-true (getD s (10 + n) 0) (2 ^ 18) (sym (at-a (10 + n) (getD s (10 + n) 0) (omega arith) (omega arith)) ∙ w .at (10 + n)),
   )
 
-  pub stop-listed : (n : ℕ) → n < 10 → stopListed (processorOf s n .stop) ≡ true
+  pub stop-listed : (n : ℕ) → n < 10 → peripheralStopListed (processorOf s n .stop) ≡ true
   stop-listed n h = sym (at-stop (20 + n) (getD s (20 + n) 0) (omega arith) (omega arith)) ∙ w .at (20 + n)
 
   pub channel-fits : (i : ℕ) → i < 12 → ChannelFits (channelOf s i)
@@ -99,15 +99,6 @@ module _ (s : List ℕ) (w : NumbersWide s) where
 pub wide-set : (s : List ℕ) (i v : ℕ) → numberFits i v ≡ true → NumbersWide s → NumbersWide (set s i v)
 wide-set s i v h w = record { at = λ j. set-in (λ (k y : ℕ). numberFits k y ≡ true) s i j v h (w .at j) }
 
--- every stop of a peripheral processor is one of 31 to 36
-stop-number : (why : PeripheralStop) → stopListed (peripheralStopNumber why) ≡ true
-stop-number Peripheral.CentralAddress = refl
-stop-number Peripheral.NoChannel = refl
-stop-number Peripheral.PackagePastEnd = refl
-stop-number Peripheral.StrayBits = refl
-stop-number Peripheral.FieldPastEnd = refl
-stop-number Peripheral.UnfitCode = refl
-
 -- each change of the numbers keeps their widths
 pub wide-advanced : (s : List ℕ) (n p a : ℕ) → n < 10 → p < 2 ^ 12 → a < 2 ^ 18 → NumbersWide s → NumbersWide (advanced s n p a)
 wide-advanced s n p a h hp ha w =
@@ -117,7 +108,7 @@ wide-advanced s n p a h hp ha w =
 pub wide-stopped : (s : List ℕ) (n : ℕ) (why : PeripheralStop) → n < 10 → NumbersWide s → NumbersWide (stopped s n why)
 wide-stopped s n why h w =
     wide-set s (20 + n) (peripheralStopNumber why)
-    (at-stop (20 + n) (peripheralStopNumber why) (omega arith) (omega arith) ∙ stop-number why)
+    (at-stop (20 + n) (peripheralStopNumber why) (omega arith) (omega arith) ∙ peripheral-stop-listed why)
     w
 
 pub wide-channel : (s : List ℕ) (i : ℕ) (c : Channel) → i < 12 → ChannelFits c → NumbersWide s → NumbersWide (withChannel s i c)

@@ -6,7 +6,7 @@ use lib.Dec.{ltb}
 use Rattle.base_logic.specs.Laws.Tests.{both}
 use Rattle.central_record.specs.Record.{recordFits}
 use Rattle.base_lists.specs.Laws.Indexed.{all-at}
-use Rattle.peripheral_machine.specs.Numbers.{stopListed}
+use Rattle.base_outcome.specs.Numbers.{peripheralStopListed}
 use Rattle.peripheral_machine.specs.declared.numbers.Processor.{Processor}
 use Rattle.whole_record.specs.declared.record.MachineRecord.{MachineRecord}
 use Rattle.whole_record.specs.Record.{processorAt, channelAt, processorFits, processorFitsAt, processorsFit, channelFitsAt, channelsFit, machineFits}
@@ -14,12 +14,12 @@ use Rattle.whole_record.specs.Record.{processorAt, channelAt, processorF
 pub record FitsProcessor (q : Processor) : Type 0 where
   pub p-width : ltb (q .p) (2 ^ 12) ≡ true
   pub a-width : ltb (q .a) (2 ^ 18) ≡ true
-  pub stop-listed : stopListed (q .stop) ≡ true
+  pub stop-listed : peripheralStopListed (q .stop) ≡ true
 
 pub processor-fits : (q : Processor) → processorFits q ≡ true → FitsProcessor q
 unfolding processorFits
 processor-fits q h =
-    let h₂ = both _ (stopListed (q .stop)) h in
+    let h₂ = both _ (peripheralStopListed (q .stop)) h in
     let h₁ = both (ltb (q .p) (2 ^ 12)) (ltb (q .a) (2 ^ 18)) (h₂ .0) in
     record { p-width = h₁ .0; a-width = h₁ .1; stop-listed = h₂ .1 }
 
