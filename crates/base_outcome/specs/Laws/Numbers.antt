@@ -4,10 +4,13 @@ use mathlib.Core.Bool.{true}
 use mathlib.Core.List.{List, [], _∷_}
 use mathlib.Core.Logic.{_⊎_, inl, inr, ⊎-elim}
 use mathlib.Core.Path.{_≡_, refl, sym, ap, _∙_}
-use Prim.Native.Nat.{ℕ, zero, suc, _+_, _-_, _<_}
+use Prim.Native.Nat.{ℕ, zero, suc, _+_, _-_, _≤_, _<_}
 use native.Mathlib.Omega.{arith}
 use borrow.Author.Tests.{leb-true, eqb-true}
+use lib.Dec.{eqb}
 use lib.ListN.{getD}
+use Rattle.base_lists.specs.Indexed.{allBelow}
+use Rattle.base_lists.specs.Laws.Indexed.{all-at}
 use Rattle.base_logic.specs.Laws.Tests.{both, one-of}
 use Rattle.base_outcome.specs.declared.refusal.Refusal.{Refusal}
 use Rattle.base_outcome.specs.declared.refusal.Refusal.the-variants as Refused
@@ -22,6 +25,14 @@ use Rattle.base_outcome.specs.Numbers.{refusalNumber, verdictNumber, cen
 -- a number from which the case can be had again is the number of no other case
 distinct : {A : Type 0} (number : A → ℕ) (case : ℕ → A) → ((a : A) → case (number a) ≡ a) → (a b : A) → number a ≡ number b → a ≡ b
 distinct number case again a b e = sym (again a) ∙ ap case e ∙ again b
+
+-- the numbers from a first one on are those of their cases, by one computed test of them all
+numbered : {A : Type 0} (number : A → ℕ) (case : ℕ → A) (first count : ℕ)
+    → allBelow count (λ k. eqb (number (case (first + k))) (first + k)) ≡ true
+    → (n : ℕ) → first ≤ n → n < first + count → number (case n) ≡ n
+numbered number case first count all n least most =
+    let passed = all-at (λ k. eqb (number (case (first + k))) (first + k)) count all (n - first) (omega arith) in
+    let same : first + (n - first) ≡ n = omega arith in eqb-true (number (case n)) n (rw same at passed)
 
 abbrev refusals : List Refusal
 refusals =
@@ -104,19 +115,12 @@ central-stop-listed Central.FetchOutside = refl
 central-stop-listed Central.UnfitCode = refl
 central-stop-listed Central.LastParcel = refl
 
-numbered-from-1 : (k : ℕ) → k < 5 → (s : CentralStop) × (centralStopNumber s ≡ 1 + k)
-numbered-from-1 zero h = (Central.Halt, refl)
-numbered-from-1 (suc zero) h = (Central.OperandOutside, refl)
-numbered-from-1 (suc (suc zero)) h = (Central.FetchOutside, refl)
-numbered-from-1 (suc (suc (suc zero))) h = (Central.UnfitCode, refl)
-numbered-from-1 (suc (suc (suc (suc zero)))) h = (Central.LastParcel, refl)
-numbered-from-1 (suc (suc (suc (suc (suc k))))) h = absurd (omega arith)
-
 pub central-listed-stop : (n : ℕ) → centralStopListed n ≡ true → (n ≡ 0) ⊎ ((s : CentralStop) × (centralStopNumber s ≡ n))
+unfolding allBelow
 central-listed-stop zero h = inl refl
 central-listed-stop (suc n) h =
     let most = leb-true (suc n) _ h in
-    let s = numbered-from-1 n (omega (arith, most)) in inr (s .0, s .1 ∙ omega arith)
+    inr (centralStopOf (suc n), numbered centralStopNumber centralStopOf 1 5 refl (suc n) (omega arith) (omega (arith, most)))
 
 abbrev peripheralStops : List PeripheralStop
 peripheralStops =
@@ -150,21 +154,13 @@ peripheral-stop-listed Peripheral.StrayBits = refl
 peripheral-stop-listed Peripheral.FieldPastEnd = refl
 peripheral-stop-listed Peripheral.UnfitCode = refl
 
-numbered-from-31 : (k : ℕ) → k < 6 → (s : PeripheralStop) × (peripheralStopNumber s ≡ 31 + k)
-numbered-from-31 zero h = (Peripheral.CentralAddress, refl)
-numbered-from-31 (suc zero) h = (Peripheral.NoChannel, refl)
-numbered-from-31 (suc (suc zero)) h = (Peripheral.PackagePastEnd, refl)
-numbered-from-31 (suc (suc (suc zero))) h = (Peripheral.StrayBits, refl)
-numbered-from-31 (suc (suc (suc (suc zero)))) h = (Peripheral.FieldPastEnd, refl)
-numbered-from-31 (suc (suc (suc (suc (suc zero))))) h = (Peripheral.UnfitCode, refl)
-numbered-from-31 (suc (suc (suc (suc (suc (suc k)))))) h = absurd (omega arith)
-
 pub peripheral-listed-stop : (n : ℕ) → peripheralStopListed n ≡ true → (n ≡ 0) ⊎ ((s : PeripheralStop) × (peripheralStopNumber s ≡ n))
+unfolding allBelow
 peripheral-listed-stop n h =
     ⊎-elim (λ e. inl (eqb-true n 0 e))
     (λ e.
     let l = both _ _ e in
     let least = leb-true _ n (l .0) in
     let most = leb-true n _ (l .1) in
-    let s = numbered-from-31 (n - 31) (omega (arith, least, most)) in inr (s .0, s .1 ∙ omega (arith, least, most)))
+    inr (peripheralStopOf n, numbered peripheralStopNumber peripheralStopOf 31 6 refl n (omega (arith, least)) (omega (arith, most))))
     (one-of _ _ h)
