@@ -4,6 +4,7 @@ use mathlib.Core.List.{List}
 use Prim.Native.Nat.{ℕ, _+_, _*_, _-_, _%_, _^_}
 use lib.Dec.{eqb, ltb}
 use lib.ListN.{getD}
+use Rattle.peripheral_codes.specs.IndexSum.{indexSum}
 
 abbrev pub wordAt : List ℕ → ℕ → ℕ
 wordAt m i = getD m i 0
@@ -16,9 +17,9 @@ onward p k = (p + k) % 4096
 abbrev pub second : List ℕ → ℕ → ℕ
 second m p = wordAt m (onward p 1)
 
--- "m + (d) modulo 4096, and m alone for d = 0"
+-- m + (d), "and m alone for d = 0"
 unfoldable pub indexed : List ℕ → ℕ → ℕ → ℕ
-indexed m p d = cond (eqb d 0) (second m p) ((second m p + wordAt m d) % 4096)
+indexed m p d = cond (eqb d 0) (second m p) (indexSum 12 (second m p) (wordAt m d))
 
 -- dm: the 18 bits of d and m
 abbrev pub constant : List ℕ → ℕ → ℕ → ℕ

@@ -2,6 +2,7 @@
 ghost use mathlib.Core.Path.{_≡_};
 ghost use Prim.Native.Nat.{_^_, _<_};
 ghost use Rattle.peripheral_codes.specs.Addresses.{wordAt, onward, second, indexed, constant, jumpTarget};
+ghost use Rattle.peripheral_codes.specs.IndexSum.{indexSum};
 ghost use Rattle.peripheral_codes.specs.Widths.{Memory, Twelve};
 
 // A word of the processor's memory.
@@ -31,6 +32,19 @@ pub fn second(m: &[u16], p: u64) -> u64
     read(m, (p + 1) % 4096)
 }
 
+// The sum of a base and an index. A carry out of the 12 bits comes back in as one; 7777 stays, so this is not the sum of A.
+fn index_sum(base: u64, index: u64) -> u64
+    requires { ⌜ (base < 2 ^ 12) × (index < 2 ^ 12) ⌝ }
+    ensures { λ r. ⌜ r ≡ indexSum 12 base index ⌝ }
+{
+    let plain = base + index;
+    if plain <= 0o7777 {
+        plain
+    } else {
+        plain - 0o7777
+    }
+}
+
 // m + (d), or m alone.
 pub fn indexed(m: &[u16], p: u64, d: u64) -> u64
     requires { ⌜ Memory (now m) ⌝ }
@@ -43,7 +57,7 @@ pub fn indexed(m: &[u16], p: u64, d: u64) -> u64
         return base;
     }
     let index = read(m, d);
-    (base + index) % 4096
+    index_sum(base, index)
 }
 
 // The 18 bits of d and m.

@@ -14,6 +14,7 @@ use tozhenab::layout::{CENTRAL_NUMBERS, MACHINE_NUMBERS, P, PROCESSORS};
 /// The requests of document 02 that have landed here; the second emulator answers with these in force.
 const LANDED: Requests = Requests {
     b: true,
+    c: true,
     ..Requests::none()
 };
 

@@ -1,12 +1,15 @@
 -- Addresses have 12 bits, as has what goes to memory or out, and the constant dm has 18.
 use mathlib.Core.List.{List}
-use Prim.Native.Nat.{ℕ, _+_, _-_, _%_, _^_, _<_}
+use mathlib.Core.Path.{_≡_, refl}
+use Prim.Native.Nat.{ℕ, _+_, _-_, _%_, _^_, _≤_, _<_}
 use native.Mathlib.Omega.{arith}
+use borrow.Author.Tests.{ne-eqb}
 use lib.Dec.{eqb, ltb}
 use Rattle.word_arithmetic.specs.Bits.{low}
 use Rattle.base_logic.specs.Laws.Choice.{of-cond}
 use Rattle.peripheral_codes.specs.Addresses.{wordAt, onward, second, indexed, constant, jumpTarget}
 use Rattle.peripheral_codes.specs.Widths.{Memory}
+use Rattle.peripheral_codes.specs.Laws.IndexSum.{index-lt, step-back}
 
 modulo-lt : (n : ℕ) → n % 4096 < 2 ^ 12
 modulo-lt n = omega arith
@@ -28,7 +31,20 @@ second-lt m h p = h .short .word (onward p 1)
 pub indexed-lt : (m : List ℕ) → Memory m → (p d : ℕ) → indexed m p d < 2 ^ 12
 unfolding indexed
 indexed-lt m h p d =
-    of-cond (λ (v : ℕ). v < 2 ^ 12) (eqb d 0) (λ e. second-lt m h p) (λ e. modulo-lt (second m p + wordAt m d))
+    of-cond (λ (v : ℕ). v < 2 ^ 12) (eqb d 0)
+    (λ e. second-lt m h p)
+    (λ e. index-lt 12 (second m p) (wordAt m d) (second-lt m h p) (h .short .word d))
+
+-- "m alone for d = 0", whatever word 0 holds
+pub indexed-alone : (m : List ℕ) (p : ℕ) → indexed m p 0 ≡ second m p
+unfolding indexed
+indexed-alone m p = refl
+
+-- with 7776 in d an instruction reaches the word before m
+pub indexed-back : (m : List ℕ) → Memory m → (p d : ℕ) → (d ≡ 0 → ⊥) → wordAt m d ≡ 0o7776 → 2 ≤ second m p → indexed m p d ≡ second m p - 1
+unfolding indexed
+indexed-back m h p d n e l =
+    rw (ne-eqb d 0 n, e) (step-back (second m p) l (omega (arith, second-lt m h p)))
 
 pub constant-lt : (m : List ℕ) → Memory m → (p d : ℕ) → d < 64 → constant m p d < 2 ^ 18
 constant-lt m h p d l = omega (arith, second-lt m h p)

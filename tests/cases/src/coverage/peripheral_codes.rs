@@ -1,7 +1,8 @@
-//! Counts of the peripheral codes that ran, and of what their jumps and channels were.
+//! Counts of the peripheral codes that ran, and of what their index sums, jumps and channels were.
 
 use super::Seen;
 use crate::peripheral::channel_state::WAITING;
+use crate::peripheral::instruction::INDEXED;
 use std::fmt;
 use tozhenab::layout::CHANNELS;
 
@@ -17,6 +18,8 @@ const CLOCK: usize = CHANNELS;
 pub struct PeripheralCodes {
     /// By code.
     pub codes: [u64; 64],
+    /// By place in `INDEXED` and by `IndexSum`.
+    pub index_sums: [[u64; 3]; INDEXED.len()],
     /// By place in `JUMPS`: jumped, or did not; 64 to 67 on channels 00 to 13.
     pub jumps: [[u64; 2]; JUMPS.len()],
     /// By place in `OF_CHANNELS`: on channel 14, or above.
@@ -31,6 +34,7 @@ impl PeripheralCodes {
     pub fn new() -> PeripheralCodes {
         PeripheralCodes {
             codes: [0; 64],
+            index_sums: [[0; 3]; INDEXED.len()],
             jumps: [[0; 2]; JUMPS.len()],
             past_channels: [[0; 2]; OF_CHANNELS.len()],
             waits: [0; WAITING.len()],
@@ -52,6 +56,11 @@ impl PeripheralCodes {
         };
         let record = &seen.case.lent.record;
         self.codes[ran.code] += 1;
+        if let Some(comes_to) = ran.index_sum() {
+            add(&INDEXED, ran.code, |place| {
+                self.index_sums[place][comes_to as usize] += 1;
+            });
+        }
         if let Some(jumps) = ran.jumps(record) {
             add(&JUMPS, ran.code, |place| {
                 self.jumps[place][usize::from(!jumps)] += 1;
@@ -72,6 +81,17 @@ impl PeripheralCodes {
     pub fn required(&self, see: &mut dyn FnMut(fmt::Arguments, u64)) {
         for (code, &count) in self.codes.iter().enumerate() {
             see(format_args!("peripheral code {code:02o}"), count);
+        }
+        for (code, [below, exactly, round]) in INDEXED.iter().zip(self.index_sums) {
+            see(format_args!("m + (d) below 7777 of code {code:02o}"), below);
+            see(
+                format_args!("m + (d) exactly 7777 of code {code:02o}"),
+                exactly,
+            );
+            see(
+                format_args!("m + (d) carried round of code {code:02o}"),
+                round,
+            );
         }
         for (code, [jumped, stayed]) in JUMPS.iter().zip(self.jumps) {
             see(format_args!("a jump of peripheral code {code:02o}"), jumped);

@@ -6,6 +6,7 @@ use super::peripheral_codes::{PeripheralCodes, JUMPS, OF_CHANNELS};
 use super::{stops_of, Coverage, STOPS};
 use crate::case::{NAMES, REFUSALS};
 use crate::peripheral::channel_state::WAITING;
+use crate::peripheral::instruction::INDEXED;
 use std::fmt;
 
 impl fmt::Display for Coverage {
@@ -91,10 +92,12 @@ impl fmt::Display for CentralCodes {
 impl fmt::Display for PeripheralCodes {
     fn fmt(&self, f: &mut fmt::Formatter) -> fmt::Result {
         write_codes(f, "peripheral codes", &self.codes)?;
+        writeln!(f, "\nm + (d): below 7777, exactly 7777, carried round")?;
+        write_counts(f, &INDEXED, &self.index_sums)?;
         writeln!(f, "\nperipheral jumps: jumped, did not")?;
-        write_pairs(f, &JUMPS, &self.jumps)?;
+        write_counts(f, &JUMPS, &self.jumps)?;
         writeln!(f, "\ncodes of channels: on 14, above 14")?;
-        write_pairs(f, &OF_CHANNELS, &self.past_channels)?;
+        write_counts(f, &OF_CHANNELS, &self.past_channels)?;
         writeln!(f, "\nturns that waited")?;
         write_row(f, &WAITING, &self.waits)?;
         writeln!(f, "\nwaits in a run that another processor ended")?;
@@ -102,12 +105,19 @@ impl fmt::Display for PeripheralCodes {
     }
 }
 
-/// Two counts for each code, four codes a row.
-fn write_pairs(f: &mut fmt::Formatter, codes: &[usize], counts: &[[u64; 2]]) -> fmt::Result {
+/// A few counts for each code, four codes a row.
+fn write_counts<const N: usize>(
+    f: &mut fmt::Formatter,
+    codes: &[usize],
+    counts: &[[u64; N]],
+) -> fmt::Result {
     let rows = codes.chunks(4).zip(counts.chunks(4));
     for (codes, counts) in rows {
-        for (code, [one, other]) in codes.iter().zip(counts) {
-            write!(f, "    {code:02o}{one:>7}{other:>7}")?;
+        for (code, counts) in codes.iter().zip(counts) {
+            write!(f, "    {code:02o}")?;
+            counts
+                .iter()
+                .try_for_each(|count| write!(f, "{count:>7}"))?;
         }
         writeln!(f)?;
     }

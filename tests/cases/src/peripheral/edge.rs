@@ -18,8 +18,10 @@ pub fn bring_about(rng: &mut Rng, own: &mut [u16], p: u64, a: &mut u64) {
             own[p as usize] = own[p as usize] & !0o77 | d as u16;
         }
         0o01 | 0o02 => index_to_edge(rng, own, p),
-        0o50..=0o57 if rng.one_in(2) => index_to_edge(rng, own, p),
-        0o30..=0o57 => {
+        code @ 0o30..=0o57 => {
+            if code >= 0o50 && rng.one_in(2) {
+                index_to_edge(rng, own, p);
+            }
             *a = rng.pick(&EDGES_A);
             operand_to_edge(rng, own, p);
         }
@@ -27,15 +29,30 @@ pub fn bring_about(rng: &mut Rng, own: &mut [u16], p: u64, a: &mut u64) {
     }
 }
 
-/// Has m + (d) be the last address, one more, or an address of the instruction itself.
+/// Has m + (d) be 7777 or the first sum that carries round, has (d) be minus one or minus zero, or has
+/// the sum lead to a word of the instruction itself.
 fn index_to_edge(rng: &mut Rng, own: &mut [u16], p: u64) {
-    let instruction = Instruction::at(own, p, 0);
-    let index = instruction
-        .indexed_sum()
-        .map_or(0, |sum| sum - instruction.m);
-    let sum = rng.pick(&[0o7777, 0o10000, p, p + 1]);
-    let m = (sum + 0o10000 - index) & ONES_12;
+    let d = Instruction::at(own, p, 0).d;
+    let index = if d == 0 { 0 } else { own[d].into() };
+    let m = match rng.below(6) {
+        0 => 0o7777 - index,
+        1 => (0o10000 - index) & ONES_12,
+        2 | 3 if d as u64 != p => {
+            own[d] = rng.pick(&[0o7776, 0o7777]) as u16;
+            rng.pick(&[0, 1, 2, 0o100, 0o7777])
+        }
+        _ => base_to((p + rng.below(2)) & ONES_12, index),
+    };
     own[((p + 1) & ONES_12) as usize] = m as u16;
+}
+
+/// The m that leads to an address with an index; to address 0 none does but with index 0.
+fn base_to(address: u64, index: u64) -> u64 {
+    if index <= address {
+        address - index
+    } else {
+        address + 0o7777 - index
+    }
 }
 
 /// Has the word that the instruction works on be an edge, unless that is its own first word.

@@ -18,9 +18,24 @@ pub struct Instruction<'a> {
     own: &'a [u16],
 }
 
-/// Codes that take m + (d): 01, 02, 50 to 57.
-pub fn is_indexed(code: usize) -> bool {
-    matches!(code, 0o01 | 0o02 | 0o50..=0o57)
+/// The codes that take m + (d).
+pub const INDEXED: [usize; 10] = [0o01, 0o02, 0o50, 0o51, 0o52, 0o53, 0o54, 0o55, 0o56, 0o57];
+
+/// What m + (d) comes to.
+#[derive(Clone, Copy)]
+pub enum IndexSum {
+    Below7777,
+    Exactly7777,
+    CarriedRound,
+}
+
+/// The address of a sum of m and (d): above 7777 it loses 10000 and gains one.
+fn carried_round(sum: u64) -> u64 {
+    if sum > 0o7777 {
+        sum - 0o10000 + 1
+    } else {
+        sum
+    }
 }
 
 impl<'a> Instruction<'a> {
@@ -47,14 +62,35 @@ impl<'a> Instruction<'a> {
         }
     }
 
-    /// m + (d) of a code that takes it, not yet modulo 4,096; none for d = 0, where m stands alone.
+    fn is_indexed(&self) -> bool {
+        INDEXED.contains(&self.code)
+    }
+
+    /// m + (d) of a code that takes it, before it carries round; none for d = 0, where m stands alone.
     pub fn indexed_sum(&self) -> Option<u64> {
-        (is_indexed(self.code) && self.d != 0).then(|| self.m + u64::from(self.own[self.d]))
+        (self.is_indexed() && self.d != 0).then(|| self.m + u64::from(self.own[self.d]))
+    }
+
+    /// What m + (d) comes to, where the instruction tells it from another rule: from m alone, from
+    /// 7777 taken as 0, from a carry that is lost. The jumps do by the address, the others by its word.
+    pub fn index_sum(&self) -> Option<IndexSum> {
+        let sum = self.indexed_sum()?;
+        let (comes_to, by_another_rule) = match sum {
+            0..0o7777 => (IndexSum::Below7777, self.m),
+            0o7777 => (IndexSum::Exactly7777, 0),
+            _ => (IndexSum::CarriedRound, sum - 0o10000),
+        };
+        let address = carried_round(sum);
+        let tells = match self.code {
+            0o01 | 0o02 => address != by_another_rule,
+            _ => self.word(address) != self.word(by_another_rule),
+        };
+        tells.then_some(comes_to)
     }
 
     /// A code that could take m + (d) and has d = 0.
     pub fn is_without_index(&self) -> bool {
-        is_indexed(self.code) && self.d == 0
+        self.is_indexed() && self.d == 0
     }
 
     /// A word of the processor's memory.
@@ -67,7 +103,7 @@ impl<'a> Instruction<'a> {
         match self.code {
             0o30..=0o37 => Some(self.d as u64),
             0o40..=0o47 => Some(self.own[self.d].into()),
-            code if is_indexed(code) => Some(self.indexed_sum().unwrap_or(self.m) & ONES_12),
+            _ if self.is_indexed() => Some(self.indexed_sum().map_or(self.m, carried_round)),
             _ => None,
         }
     }

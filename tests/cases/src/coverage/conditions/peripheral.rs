@@ -45,12 +45,16 @@ pub const CONDITIONS: &[Condition] = &[
     }),
     ("02 onto its own second word", |s| s.returned_onto(1)),
     ("02 onto its own first word", |s| s.returned_onto(0)),
-    ("m + (d) of 7777", |s| {
-        s.ran_instruction(|ran| ran.indexed_sum() == Some(0o7777))
-    }),
     ("m + (d) of 10000", |s| {
         s.ran_instruction(|ran| ran.indexed_sum() == Some(0o10000))
     }),
+    ("m + (d) with 0 and 7777", |s| s.indexed(0, 0o7777)),
+    ("m + (d) with 7777 and 7777", |s| s.indexed(0o7777, 0o7777)),
+    ("m + (d) with 0 and 7776", |s| s.indexed(0, 0o7776)),
+    ("m + (d) with 1 and 7776", |s| s.indexed(1, 0o7776)),
+    ("m + (d) with 2 and 7776", |s| s.indexed(2, 0o7776)),
+    ("m + (d) with 0100 and 7776", |s| s.indexed(0o100, 0o7776)),
+    ("m + (d) with 7777 and 7776", |s| s.indexed(0o7777, 0o7776)),
     ("m alone, and word 0 not 0", |s| {
         s.ran_instruction(|ran| ran.is_without_index() && ran.word(0) != 0)
     }),

@@ -69,6 +69,11 @@ impl Seen<'_> {
         self.ran_instruction(|ran| ran.code == code && ran.operand() == Some(word))
     }
 
+    /// A code that adds this m and this (d).
+    pub fn indexed(&self, m: u64, index: u64) -> bool {
+        self.ran_instruction(|ran| ran.m == m && ran.indexed_sum() == Some(m + index))
+    }
+
     /// 02 to an address so far from its own.
     pub fn returned_onto(&self, distance: u64) -> bool {
         let onto = |ran: &Instruction| ran.address() == Some((ran.p + distance) & ONES_12);
