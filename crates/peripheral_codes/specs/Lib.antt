@@ -1,5 +1,6 @@
 -- The definitions that the contracts of `peripheral_codes` cite. A reader has to believe these, but for `Widths`, which only says what the
 -- functions ask for; `Laws` is proved from them.
+-- m + (d)
 pub mod IndexSum
 pub mod Addresses
 -- 00 to 07
