@@ -1,4 +1,4 @@
--- Addresses have 12 bits, as has what goes to memory or out, and the constant dm has 18.
+-- Addresses have 12 bits, as has what goes to memory or out, and the constant dm has 18. Where an index leads.
 use mathlib.Core.List.{List}
 use mathlib.Core.Path.{_≡_, refl}
 use Prim.Native.Nat.{ℕ, _+_, _-_, _%_, _^_, _≤_, _<_}

@@ -12,7 +12,7 @@ use Rattle.base_logic.specs.Laws.Choice.{le-or-lt}
 use Rattle.peripheral_codes.specs.IndexSum.{indexSum}
 
 module _ (n a b : ℕ) where
-  -- to 7777 the sum is the plain one
+  -- up to 7777 it is the plain sum
   pub index-plain : a + b < 2 ^ n → indexSum n a b ≡ a + b
   unfolding indexSum
   index-plain h = rw (le-ltb (2 ^ n - 1) (a + b) (omega arith))

@@ -76,7 +76,7 @@ impl<'a> Instruction<'a> {
     pub fn index_sum(&self) -> Option<IndexSum> {
         let sum = self.indexed_sum()?;
         let (comes_to, by_another_rule) = match sum {
-            0..0o7777 => (IndexSum::Below7777, self.m),
+            0..=0o7776 => (IndexSum::Below7777, self.m),
             0o7777 => (IndexSum::Exactly7777, 0),
             _ => (IndexSum::CarriedRound, sum - 0o10000),
         };
