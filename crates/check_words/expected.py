@@ -9,6 +9,7 @@ WORDS = [0, 1, 3, 0o37777777777777777777, 0o40000000000000000000, 0o777777777777
          0o77777777777777777777, 0o17760000000000000005, 0o60010000000000000003, 0o37770000000000000000,
          0o51234567012345670123]
 SHORTS = [0, 1, 3, 0o77, 0o100, 0o1776, 0o377777, 0o400000, 0o400001, 0o777700, 0o777776, 0o777777]
+MAGNITUDES = [0, 1, 3, 59, 60, 63, 64, 65, 127, 128, 129, 192, 0o1776, 4096, 0o377700, 0o377777]
 
 
 def text(n, width):
@@ -67,9 +68,12 @@ def mask(k):
 
 
 def nominal(b, x, to_left):
+    """To the left by the low six bits of the count; to the right by 64 places or more nothing is left, not even the sign."""
     negative = text(b, 18)[0] == "1"
-    k = number(text(complement(b, 18) if negative else b, 18)[-6:])
-    return rotated(x, k, 60) if to_left != negative else right(x, k, 60)
+    places = abs(value(b, 18))
+    if to_left != negative:
+        return rotated(x, places % 64, 60)
+    return right(x, places, 60) if places < 64 else 0
 
 
 def shn(d, a):
@@ -143,8 +147,8 @@ def pair(x, y, a, b):
     results = [total(a, b, 18), less(a, b, 18)] + [bitwise(f, a, b, 18) for f in (AND, XOR, CLEAR)]
     line(short(a), short(b), *map(short, results), flags(comparisons(a, b)))
     sign = text(a, 18)[0]
-    line(short(a), word(y), short(complement(a, 18)), sign, word(number(sign * 42 + text(a, 18))),
-         word(nominal(a, y, True)), word(nominal(a, y, False)), word(packed(a, y)))
+    line(short(a), word(y), short(complement(a, 18)), sign, short(abs(value(a, 18))), word(number(sign * 42 + text(a, 18))),
+         word(packed(a, y)))
 
 
 def shift(x, a, k):
@@ -152,11 +156,16 @@ def shift(x, a, k):
     line(short(a), short(k), short(shn(k, a)), short(rotated(a, k % 32, 18)), short(right(a, k % 32, 18, "0")))
 
 
+def nominal_shifts(b, x):
+    for count in (b, complement(b, 18)):
+        line(short(count), word(x), word(nominal(count, x, True)), word(nominal(count, x, False)))
+
+
 def alone(x):
     bits = text(x, 60)
     coefficient, exponent = unpacked(x)
-    line(word(x), word(complement(x, 60)), short(number(bits[-18:])), short(number(bits[-12:])), short(bits.count("1")),
-         word(coefficient), short(exponent), bits[0], flags(conditions(x)))
+    line(word(x), word(complement(x, 60)), word(abs(value(x, 60))), short(number(bits[-18:])), short(number(bits[-12:])),
+         short(bits.count("1")), word(coefficient), short(exponent), bits[0], flags(conditions(x)))
     parcels = [bits[i : i + 15] for i in range(0, 60, 15)]
     digits = [fields(p, 3) + [number(p[:6]), number(p[-6:])] for p in parcels]
     constants = [number(bits[15 * i : 15 * i + 30][-18:]) for i in range(3)]
@@ -170,5 +179,8 @@ for x, a in EDGES:
 for x, a in EDGES:
     for k in range(64):
         shift(x, a, k)
+for b in MAGNITUDES:
+    for x in WORDS:
+        nominal_shifts(b, x)
 for x in WORDS:
     alone(x)

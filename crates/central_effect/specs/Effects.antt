@@ -1,5 +1,5 @@
 -- What each code asks for, by rows of the first digit. Operands are read from the registers as they are before the instruction.
-use mathlib.Core.Bool.{Bool, cond}
+use mathlib.Core.Bool.{Bool, true, false, cond}
 use mathlib.Core.List.{List, [], _∷_}
 use Prim.Native.Nat.{ℕ, _+_, _*_, _/_, _%_, _^_}
 use lib.Dec.{eqb}
@@ -8,7 +8,8 @@ use Rattle.word_arithmetic.specs.Bits.{low}
 use Rattle.word_arithmetic.specs.Sums.{sum, difference, signExtend}
 use Rattle.word_arithmetic.specs.Logic.{logical}
 use Rattle.central_condition.specs.Conditions.{wordCondition, comparison}
-use Rattle.word_shift.specs.Shifts.{rotateLeft, mask, shiftRightSigned, nominalLeft, nominalRight, countOnes}
+use Rattle.word_shift.specs.Shifts.{rotateLeft, mask, shiftRightSigned, countOnes}
+use Rattle.word_shift.specs.Nominal.{nominal}
 use Rattle.word_shift.specs.Floating.{coefficientOf, exponentOf, packed}
 use Rattle.base_outcome.specs.declared.stop.CentralStop.the-variants as Because
 use Rattle.central_registers.specs.Registers.{aOf, bOf, xOf}
@@ -45,13 +46,13 @@ branchOf r q m p =
 unfoldable pub unpackTo : ℕ → ℕ → ℕ → CentralEffect
 unpackTo i j x = SetXB i (coefficientOf x) j (exponentOf x)
 
--- 20 to 27: 20 and 21 shift Xi by jk, 22 and 23 Xk by Bj, 26 unpacks Xk, 27 packs it with Bj
+-- 20 to 27: 20 and 21 shift Xi by jk, 22 (nominally left) and 23 (nominally right) Xk by Bj, 26 unpacks Xk, 27 packs it with Bj
 abbrev pub shifts : List ℕ → Instruction → List CentralEffect
 shifts r q =
     SetX (q .i) (rotateLeft 60 (xOf r (q .i)) (q .jk))
     ∷ SetX (q .i) (shiftRightSigned 60 (xOf r (q .i)) (q .jk))
-    ∷ SetX (q .i) (nominalLeft (bOf r (q .j)) (xOf r (q .k)))
-    ∷ SetX (q .i) (nominalRight (bOf r (q .j)) (xOf r (q .k)))
+    ∷ SetX (q .i) (nominal true (bOf r (q .j)) (xOf r (q .k)))
+    ∷ SetX (q .i) (nominal false (bOf r (q .j)) (xOf r (q .k)))
     ∷ leftOut
     ∷ leftOut
     ∷ unpackTo (q .i) (q .j) (xOf r (q .k))

@@ -11,8 +11,7 @@ use central_registers::registers::b_of;
 use central_registers::registers::x_of;
 use word_shift::floating::pack;
 use word_shift::floating::unpack;
-use word_shift::shifts::nominal_left;
-use word_shift::shifts::nominal_right;
+use word_shift::nominal::nominal;
 use word_shift::shifts::rotate_left60;
 use word_shift::shifts::shift_right60;
 
@@ -25,7 +24,7 @@ fn unpack_to(i: usize, j: usize, x: u64) -> CentralEffect
     CentralEffect::SetXB(i, u.coefficient, j, u.exponent)
 }
 
-// Code 2m.
+// Code 2m. 22 shifts nominally left, 23 nominally right.
 pub(crate) fn effect_of(r: &[u64; 24], q: Instruction, m: u64) -> CentralEffect
     requires { ⌜ Wide (now r) ⌝ }
     requires { ⌜ Fit q ⌝ }
@@ -39,8 +38,8 @@ pub(crate) fn effect_of(r: &[u64; 24], q: Instruction, m: u64) -> CentralEffect
     match m {
         0 => CentralEffect::SetX(i, rotate_left60(x_of(r, i), jk)),
         1 => CentralEffect::SetX(i, shift_right60(x_of(r, i), jk)),
-        2 => CentralEffect::SetX(i, nominal_left(b_of(r, j), x_of(r, k))),
-        3 => CentralEffect::SetX(i, nominal_right(b_of(r, j), x_of(r, k))),
+        2 => CentralEffect::SetX(i, nominal(true, b_of(r, j), x_of(r, k))),
+        3 => CentralEffect::SetX(i, nominal(false, b_of(r, j), x_of(r, k))),
         4 => CentralEffect::Stop(CentralStop::UnfitCode),
         5 => CentralEffect::Stop(CentralStop::UnfitCode),
         6 => unpack_to(i, j, x_of(r, k)),

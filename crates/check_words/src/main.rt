@@ -1,6 +1,7 @@
 // Prints the results of every operation of `word_arithmetic`, `word_fields`, `central_condition` and `word_shift`, and of decoding, on edge operands, in octal.
 // The expected output, in the file stdout, was written by expected.py beside it, which goes by strings of bits and by signed whole numbers
 // and shares nothing with this code.
+mod nominal;
 mod show;
 mod values18;
 mod values60;
@@ -22,6 +23,13 @@ fn shifts() {
     }
 }
 
+// Each edge magnitude, in both signs of Bj, with each edge word.
+fn nominal_shifts() {
+    for i in 0..192usize {
+        nominal::shifts(nominal::magnitude(i / 12), values60::edge(i % 12));
+    }
+}
+
 fn words() {
     for i in 0..12usize {
         values60::alone(values60::edge(i));
@@ -31,5 +39,6 @@ fn words() {
 fn main() {
     pairs();
     shifts();
+    nominal_shifts();
     words();
 }

@@ -8,11 +8,10 @@ use word_arithmetic::logic::selective_clear;
 use word_arithmetic::sums::complement18;
 use word_arithmetic::sums::difference18;
 use word_arithmetic::sums::is_negative18;
+use word_arithmetic::sums::magnitude18;
 use word_arithmetic::sums::sign_extend18;
 use word_arithmetic::sums::sum18;
 use word_shift::floating::pack;
-use word_shift::shifts::nominal_left;
-use word_shift::shifts::nominal_right;
 use word_shift::shifts::rotate_left18;
 use word_shift::shifts::shift_a;
 use word_shift::shifts::shift_right18;
@@ -78,9 +77,8 @@ pub(crate) fn with_word(b: u64, x: u64)
     show::word(x);
     show::short(complement18(b));
     show::flag(is_negative18(b));
+    show::short(magnitude18(b));
     show::word(sign_extend18(b));
-    show::word(nominal_left(b, x));
-    show::word(nominal_right(b, x));
     show::word(pack(b, x));
     show::end_line();
 }

@@ -10,6 +10,7 @@ use word_arithmetic::sums::difference60;
 use word_arithmetic::sums::is_negative60;
 use word_arithmetic::sums::low12;
 use word_arithmetic::sums::low18;
+use word_arithmetic::sums::magnitude60;
 use word_arithmetic::sums::sum60;
 use word_fields::fields::from_parts;
 use word_fields::fields::part;
@@ -132,6 +133,7 @@ pub(crate) fn alone(w: u64)
 {
     show::word(w);
     show::word(complement60(w));
+    show::word(magnitude60(w));
     show::short(low18(w));
     show::short(low12(w));
     show::short(count_ones60(w));

@@ -8,6 +8,10 @@ use Rattle.word_arithmetic.specs.Bits.{negative}
 abbrev pub complement : ℕ → ℕ → ℕ
 complement n a = 2 ^ n - 1 - a
 
+-- the magnitude: the value itself, or its complement where the sign is set
+unfoldable pub magnitude : ℕ → ℕ → ℕ
+magnitude n a = cond (negative n a) (complement n a) a
+
 -- "the minuend less the complement of the addend, plus 2^n - 1 where that is negative"
 unfoldable pub sum : ℕ → ℕ → ℕ → ℕ
 sum n minuend addend =

@@ -2,7 +2,7 @@
 ghost use mathlib.Core.Path.{_≡_};
 ghost use Prim.Native.Nat.{_<_, _^_};
 ghost use Rattle.word_arithmetic.specs.Bits.{low, negative};
-ghost use Rattle.word_arithmetic.specs.Sums.{complement, sum, difference, signExtend};
+ghost use Rattle.word_arithmetic.specs.Sums.{complement, magnitude, sum, difference, signExtend};
 
 pub const ONES18: u64 = 0o777777;
 
@@ -32,6 +32,20 @@ pub fn is_negative60(a: u64) -> bool
     ensures { λ r. ⌜ r ≡ negative 60 a ⌝ }
 {
     0o40000000000000000000 <= a
+}
+
+pub fn magnitude18(a: u64) -> u64
+    requires { ⌜ a < 2 ^ 18 ⌝ }
+    ensures { λ r. ⌜ r ≡ magnitude 18 a ⌝ }
+{
+    if is_negative18(a) { complement18(a) } else { a }
+}
+
+pub fn magnitude60(a: u64) -> u64
+    requires { ⌜ a < 2 ^ 60 ⌝ }
+    ensures { λ r. ⌜ r ≡ magnitude 60 a ⌝ }
+{
+    if is_negative60(a) { complement60(a) } else { a }
 }
 
 // A plain sum of all ones or more loses all ones, so that 3 - 3 is plus zero.

@@ -3,23 +3,19 @@ use Prim.Native.Nat.{ℕ, _+_, _-_, _*_, _/_, _^_}
 use mathlib.Core.Bool.{cond}
 use lib.Dec.{ltb}
 use Rattle.word_arithmetic.specs.Bits.{low, negative}
-use Rattle.word_arithmetic.specs.Sums.{complement}
+use Rattle.word_arithmetic.specs.Sums.{complement, magnitude}
 use Rattle.word_shift.specs.declared.floating.Unpacked.{Unpacked}
 
--- "a negative word is complemented whole"
-unfoldable pub magnitude : ℕ → ℕ
-magnitude x = cond (negative 60 x) (complement 60 x) x
-
--- 26 "sends the signed coefficient to Xi"
+-- 26 "sends the signed coefficient to Xi"; "a negative word is complemented whole"
 unfoldable pub coefficientOf : ℕ → ℕ
-coefficientOf x = cond (negative 60 x) (complement 60 (low 48 (magnitude x))) (low 48 (magnitude x))
+coefficientOf x = cond (negative 60 x) (complement 60 (low 48 (magnitude 60 x))) (low 48 (magnitude 60 x))
 
 -- "exponent e is stored as 2000 + e, or 1777 + e below zero", and is sent to Bj in 18 bits. "Stored 1777 unpacks to 777777"
 unfoldable pub exponentFrom : ℕ → ℕ
 exponentFrom stored = cond (ltb stored 0o2000) (complement 18 (0o1777 - stored)) (stored - 0o2000)
 
 unfoldable pub exponentOf : ℕ → ℕ
-exponentOf x = exponentFrom (magnitude x / 2 ^ 48)
+exponentOf x = exponentFrom (magnitude 60 x / 2 ^ 48)
 
 -- "26 sends the signed coefficient to Xi, e to Bj"
 unfoldable pub unpackedFrom : ℕ → Unpacked

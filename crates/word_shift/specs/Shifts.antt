@@ -1,10 +1,9 @@
--- Shifts, masks and counts of values of n bits: 20 to 23, 43, 47 and the peripheral SHN.
+-- Shifts, masks and counts of values of n bits: 20, 21, 43, 47 and the peripheral SHN.
 use Prim.Native.Nat.{ℕ, _+_, _-_, _*_, _/_, _%_, _^_}
-use mathlib.Core.Bool.{Bool, not, cond}
+use mathlib.Core.Bool.{cond}
 use lib.Count.{onesIn}
 use lib.Dec.{ltb}
-use Rattle.word_arithmetic.specs.Bits.{low, negative}
-use Rattle.word_arithmetic.specs.Sums.{complement}
+use Rattle.word_arithmetic.specs.Bits.{negative}
 
 -- left circular shift by k places, of which n bring every bit back. 20 by document 004: "shifts the 60-bit word in operand register i left
 -- circular jk places. The shift enters the left-most bits of i in the lower bits of i."
@@ -22,21 +21,6 @@ shiftRight w k = w / 2 ^ k
 -- right shift by k places. 21 by document 004: "The right-most bits of i are discarded and the sign bit extended."
 unfoldable pub shiftRightSigned : ℕ → ℕ → ℕ → ℕ
 shiftRightSigned n w k = shiftRight w k + cond (negative n w) (mask n k) 0
-
--- 22 and 23: "the low six bits of Bj, complemented where Bj is negative"
-unfoldable pub nominalCount : ℕ → ℕ
-nominalCount b = low 6 (cond (negative 18 b) (complement 18 b) b)
-
--- 22 and 23 in either direction: left circular, or right with the sign extended
-unfoldable pub nominal : Bool → ℕ → ℕ → ℕ
-nominal left b x = cond left (rotateLeft 60 x (nominalCount b)) (shiftRightSigned 60 x (nominalCount b))
-
--- 22 goes left and 23 right; a negative Bj "also turns the direction"
-unfoldable pub nominalLeft : ℕ → ℕ → ℕ
-nominalLeft b x = nominal (not (negative 18 b)) b x
-
-unfoldable pub nominalRight : ℕ → ℕ → ℕ
-nominalRight b x = nominal (negative 18 b) b x
 
 -- SHN (10): "turns A left in a circle for d 00 to 37, else right by 77 - d, end off"
 unfoldable pub shiftA : ℕ → ℕ → ℕ

@@ -1,9 +1,10 @@
 // Unpack (26) and pack (27).
 ghost use mathlib.Core.Path.{_≡_};
 ghost use Prim.Native.Nat.{_<_, _^_};
-ghost use Rattle.word_shift.specs.Floating.{magnitude, coefficientOf, exponentOf, unpackedFrom, storedFrom, packed};
+ghost use Rattle.word_shift.specs.Floating.{coefficientOf, exponentOf, unpackedFrom, storedFrom, packed};
 use word_arithmetic::sums::complement18;
 use word_arithmetic::sums::complement60;
+use word_arithmetic::sums::magnitude60;
 
 const SIGN: u64 = 0o40000000000000000000;
 
@@ -15,18 +16,11 @@ pub struct Unpacked {
     pub exponent: u64,
 }
 
-fn magnitude(x: u64) -> u64
-    requires { ⌜ x < 2 ^ 60 ⌝ }
-    ensures { λ r. ⌜ r ≡ magnitude x ⌝ }
-{
-    if x < SIGN { x } else { complement60(x) }
-}
-
 fn coefficient(x: u64) -> u64
     requires { ⌜ x < 2 ^ 60 ⌝ }
     ensures { λ r. ⌜ r ≡ coefficientOf x ⌝ }
 {
-    let c = magnitude(x) & ONES48;
+    let c = magnitude60(x) & ONES48;
     if x < SIGN { c } else { complement60(c) }
 }
 
@@ -34,7 +28,7 @@ fn exponent(x: u64) -> u64
     requires { ⌜ x < 2 ^ 60 ⌝ }
     ensures { λ r. ⌜ r ≡ exponentOf x ⌝ }
 {
-    let stored = magnitude(x) >> 48;
+    let stored = magnitude60(x) >> 48;
     if stored < 0o2000 {
         complement18(0o1777 - stored)
     } else {

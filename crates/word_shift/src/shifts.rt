@@ -1,12 +1,10 @@
-// Shifts, masks and counts of bits: 20 to 23, 43, 47 and the peripheral SHN.
+// Shifts, masks and counts of bits: 20, 21, 43, 47 and the peripheral SHN.
 ghost use mathlib.Core.Path.{_≡_};
 ghost use Prim.Native.Nat.{_<_, _^_};
-ghost use Rattle.word_shift.specs.Shifts.{rotateLeft, mask, shiftRight, shiftRightSigned, nominalCount, nominal, nominalLeft, nominalRight, shiftA, countOnes};
+ghost use Rattle.word_shift.specs.Shifts.{rotateLeft, mask, shiftRight, shiftRightSigned, shiftA, countOnes};
 use word_arithmetic::sums::ONES18;
 use word_arithmetic::sums::ONES60;
-use word_arithmetic::sums::complement18;
 use word_arithmetic::sums::complement60;
-use word_arithmetic::sums::is_negative18;
 
 // 20, for any count.
 pub fn rotate_left60(w: u64, k: u64) -> u64
@@ -53,45 +51,6 @@ pub fn shift_right60(w: u64, k: u64) -> u64
     } else {
         (w >> k) | mask60(k)
     }
-}
-
-fn nominal_count(b: u64) -> u64
-    requires { ⌜ b < 2 ^ 18 ⌝ }
-    ensures { λ r. ⌜ r ≡ nominalCount b ⌝ }
-{
-    if b < 0o400000 {
-        b & 0o77
-    } else {
-        complement18(b) & 0o77
-    }
-}
-
-fn nominal(left: bool, b: u64, x: u64) -> u64
-    requires { ⌜ (b < 2 ^ 18) × (x < 2 ^ 60) ⌝ }
-    ensures { λ r. ⌜ r ≡ nominal left b x ⌝ }
-{
-    let k = nominal_count(b);
-    if left {
-        rotate_left60(x, k)
-    } else {
-        shift_right60(x, k)
-    }
-}
-
-// 22.
-pub fn nominal_left(b: u64, x: u64) -> u64
-    requires { ⌜ (b < 2 ^ 18) × (x < 2 ^ 60) ⌝ }
-    ensures { λ r. ⌜ r ≡ nominalLeft b x ⌝ }
-{
-    nominal(!is_negative18(b), b, x)
-}
-
-// 23.
-pub fn nominal_right(b: u64, x: u64) -> u64
-    requires { ⌜ (b < 2 ^ 18) × (x < 2 ^ 60) ⌝ }
-    ensures { λ r. ⌜ r ≡ nominalRight b x ⌝ }
-{
-    nominal(is_negative18(b), b, x)
 }
 
 // SHN.

@@ -4,7 +4,7 @@ use crate::case::{Call, Case, Lent};
 use crate::instruction::{edge_word, field_word, word_with};
 use crate::package::{package_of, WORDS};
 use crate::rng::Rng;
-use crate::values::{value_18, word_60, word_for_condition};
+use crate::values::{shift_count, value_18, word_60, word_for_condition};
 use tozhenab::layout::{A, B, CENTRAL_NUMBERS, EM, FL, P, RA, STOP, X};
 
 /// Most words of central memory.
@@ -129,10 +129,10 @@ pub fn turn_case(rng: &mut Rng) -> Case {
                 *word = word_with(rng, code, fl);
             }
         }
-        if *word >> 54 == 0o03 {
-            for register in &mut lent.record[X..X + 8] {
-                *register = word_for_condition(rng);
-            }
+        match *word >> 54 {
+            0o03 => lent.record[X..X + 8].fill_with(|| word_for_condition(rng)),
+            0o22 | 0o23 => lent.record[B + 1..B + 8].fill_with(|| shift_count(rng)),
+            _ => {}
         }
     }
     Case {

@@ -13,11 +13,13 @@ use tozhenab::layout::{self, PROCESSORS, PROCESSOR_STOP, STOP};
 mod central_codes;
 mod conditions;
 mod facts;
+mod nominal_shifts;
 mod peripheral_codes;
 mod table;
 
 use central_codes::CentralCodes;
 use conditions::conditions;
+use nominal_shifts::NominalShifts;
 use peripheral_codes::PeripheralCodes;
 
 /// Central stops, then peripheral ones.
@@ -39,6 +41,7 @@ pub struct Coverage {
     /// By call and place in `STOPS`.
     stops: [[u64; STOPS.len()]; NAMES.len()],
     central: CentralCodes,
+    nominal_shifts: NominalShifts,
     peripheral: PeripheralCodes,
     /// In the order of `conditions`.
     conditions: Vec<u64>,
@@ -61,6 +64,7 @@ impl Coverage {
             lowest_first: [0; NAMES.len()],
             stops: [[0; STOPS.len()]; NAMES.len()],
             central: CentralCodes::new(),
+            nominal_shifts: NominalShifts::new(),
             peripheral: PeripheralCodes::new(),
             conditions: conditions().map(|_| 0).collect(),
         }
@@ -76,6 +80,7 @@ impl Coverage {
         if seen.number == 0 {
             self.count_stops(seen);
             self.central.count(seen);
+            self.nominal_shifts.count(seen);
             self.peripheral.count(seen);
         } else if seen.case.faults.iter().any(|&fault| fault > seen.number) {
             self.lowest_first[call] += 1;
@@ -160,6 +165,7 @@ impl Coverage {
             see(format_args!("{name}"), count);
         }
         self.central.required(see);
+        self.nominal_shifts.required(see);
         self.peripheral.required(see);
     }
 }

@@ -15,6 +15,7 @@ use tozhenab::layout::{CENTRAL_NUMBERS, MACHINE_NUMBERS, P, PROCESSORS};
 const LANDED: Requests = Requests {
     b: true,
     c: true,
+    e: true,
     ..Requests::none()
 };
 

@@ -14,7 +14,8 @@ use Rattle.word_arithmetic.specs.Laws.Logic.{logical-lt}
 use Rattle.word_arithmetic.specs.Laws.Sums.{sum-lt, difference-lt, extend-lt}
 use Rattle.word_shift.specs.Laws.Floating.{coefficient-lt, exponent-lt, packed-lt}
 use Rattle.word_shift.specs.Laws.Rotation.{rotate-lt}
-use Rattle.word_shift.specs.Laws.Shifts.{mask-lt, signed-lt, nominal-left-lt, nominal-right-lt, count-le}
+use Rattle.word_shift.specs.Laws.Nominal.{nominal-lt}
+use Rattle.word_shift.specs.Laws.Shifts.{mask-lt, signed-lt, count-le}
 use Rattle.central_registers.specs.Registers.{aOf, bOf, xOf}
 use Rattle.central_effect.specs.Effects.{jumpIf, firstBranches, branchOf, unpackTo, shifts, leftOut, shiftOf, sumOf, maskOrCountOf, operands, operandOf, centralRows, effectOf}
 use Rattle.central_decode.specs.Shifted.{decodedTop}
@@ -85,8 +86,8 @@ module _ (r : List ℕ) (q : Instruction) (w : Wide r) (f : Fit q) where
         (
           (f .i, signed-lt 60 _ _ xi),
           (
-            (f .i, nominal-left-lt _ _ xk),
-            ((f .i, nominal-right-lt _ _ xk), (tt, (tt, (unpack-sound _ _ _ (f .i) (f .j) xk, ((f .i, packed-lt _ _), tt))))),
+            (f .i, nominal-lt true _ _ xk),
+            ((f .i, nominal-lt false _ _ xk), (tt, (tt, (unpack-sound _ _ _ (f .i) (f .j) xk, ((f .i, packed-lt _ _), tt))))),
           ),
         ),
       )

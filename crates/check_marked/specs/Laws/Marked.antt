@@ -5,9 +5,9 @@ use native.Mathlib.Omega.{arith}
 use borrow.Author.Tests.{le-leb, lt-ltb, le-ltb}
 use lib.Count.{onesIn}
 use lib.Dec.{lit<}
-use Rattle.word_arithmetic.specs.Sums.{sum}
+use Rattle.word_arithmetic.specs.Sums.{magnitude, sum}
 use Rattle.word_shift.specs.Shifts.{rotateLeft, mask, shiftRightSigned, shiftA}
-use Rattle.word_shift.specs.Floating.{magnitude, coefficientOf, exponentFrom, exponentOf}
+use Rattle.word_shift.specs.Floating.{coefficientOf, exponentFrom, exponentOf}
 use Rattle.central_field.specs.Address.{placeOf}
 use Rattle.central_registers.specs.Registers.{xOf}
 use Rattle.central_turn.specs.Turn.{turnOf}

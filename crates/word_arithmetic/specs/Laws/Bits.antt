@@ -100,11 +100,15 @@ bit-ones-above j s y i h l u =
     let e : i ≡ s + (i - s) = omega arith in
     ap (bit ((2 ^ j - 1) * 2 ^ s + y)) e ∙ bit-joined-high (2 ^ j - 1) s y h (i - s) ∙ bit-ones j (i - s) (omega arith)
 
+-- the sign is worth half of 2 ^ n
+pub sign-half : (n : ℕ) → 0 < n → 2 ^ n ≡ 2 ^ (n - 1) * 2
+sign-half n p = ap (λ (x : ℕ). 2 ^ x) (sym (sub-add-cancel p)) ∙ pow-add 2 (n - 1) 1
+
 -- the sign is bit n - 1
 pub sign-set : (n w : ℕ) → 0 < n → w < 2 ^ n → negative n w ≡ true → bit w (n - 1) ≡ 1
 sign-set n w p h t =
     let s : 2 ^ (n - 1) ≤ w = leb-true (2 ^ (n - 1)) w t in
-    let d : 2 ^ n ≡ 2 ^ (n - 1) * 2 = ap (λ (x : ℕ). 2 ^ x) (sym (sub-add-cancel p)) ∙ pow-add 2 (n - 1) 1 in
+    let d = sign-half n p in
     let e : w ≡ 1 * 2 ^ (n - 1) + (w - 2 ^ (n - 1)) = omega arith in
     ap (λ (x : ℕ). x / 2 ^ (n - 1) % 2) e ∙ ap (λ (x : ℕ). x % 2) (digits-div 1 {m = 2 ^ (n - 1)} (omega arith))
 

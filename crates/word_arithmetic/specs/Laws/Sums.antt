@@ -1,18 +1,46 @@
 -- What the sums of n bits come to, for every n.
+use mathlib.Core.Bool.{not}
 use mathlib.Core.Logic.{⊎-elim}
 use mathlib.Core.Path.{_≡_, refl, sym, ap, _∙_}
 use Prim.Native.Nat.{ℕ, _+_, _-_, _*_, _^_, _≤_, _<_}
 use native.Mathlib.Nat.{add-comm, sub-add-cancel}
 use native.Mathlib.Omega.{arith}
-use borrow.Author.Tests.{lt-ltb, le-ltb}
+use borrow.Author.Tests.{leb-true, leb-false, le-leb, lt-leb, lt-ltb, le-ltb}
 use lib.Pow.{pow-pos, pow-mono, high-ones}
 use Rattle.word_arithmetic.specs.Bits.{bit, negative}
-use Rattle.word_arithmetic.specs.Sums.{complement, sum, difference, signExtend}
-use Rattle.word_arithmetic.specs.Laws.Bits.{bit-joined-low, bit-beyond, bit-ones-above, sign-set, sign-clear}
+use Rattle.word_arithmetic.specs.Sums.{complement, magnitude, sum, difference, signExtend}
+use Rattle.word_arithmetic.specs.Laws.Bits.{bit-joined-low, bit-beyond, bit-ones-above, sign-half, sign-set, sign-clear}
 use Rattle.base_logic.specs.Laws.Choice.{of-cond, le-or-lt}
 
 pub complement-lt : (n a : ℕ) → complement n a < 2 ^ n
 complement-lt n a = omega (arith, pow-pos n)
+
+module _ (n a : ℕ) (p : 0 < n) (h : a < 2 ^ n) where
+  -- a magnitude has no sign bit
+  pub magnitude-lt : magnitude n a < 2 ^ (n - 1)
+  unfolding magnitude
+  magnitude-lt =
+      of-cond (λ (r : ℕ). r < 2 ^ (n - 1)) (negative n a)
+      (λ t. omega (arith, leb-true (2 ^ (n - 1)) a t, sign-half n p))
+      (λ t. leb-false (2 ^ (n - 1)) a t)
+
+  -- the complement has the other sign
+  pub negative-complement : negative n (complement n a) ≡ not (negative n a)
+  negative-complement =
+      ⊎-elim
+      (λ l. rw (le-leb (2 ^ (n - 1)) a l) (lt-leb (2 ^ (n - 1)) (complement n a) (omega (arith, sign-half n p))))
+      (λ l. rw (lt-leb (2 ^ (n - 1)) a l) (le-leb (2 ^ (n - 1)) (complement n a) (omega (arith, sign-half n p))))
+      (le-or-lt (2 ^ (n - 1)) a)
+
+  -- and the same magnitude
+  pub magnitude-complement : magnitude n (complement n a) ≡ magnitude n a
+  unfolding magnitude
+  magnitude-complement =
+      let back : complement n (complement n a) ≡ a = omega arith in
+      ⊎-elim
+      (λ l. rw (negative-complement, le-leb (2 ^ (n - 1)) a l))
+      (λ l. rw (negative-complement, lt-leb (2 ^ (n - 1)) a l) back)
+      (le-or-lt (2 ^ (n - 1)) a)
 
 module _ (n a b : ℕ) (ha : a < 2 ^ n) (hb : b < 2 ^ n) where
   -- with no carry, and not all ones, the sum is the plain one

@@ -4,16 +4,12 @@ use mathlib.Core.Path.{_≡_}
 use Prim.Native.Nat.{ℕ, _-_, _/_, _%_, _^_, _≤_, _<_}
 use native.Mathlib.Omega.{arith}
 use borrow.Author.Tests.{leb-true, leb-false, le-leb, lt-leb, lt-ltb, le-ltb}
-use lib.Dec.{ltb}
+use lib.Dec.{ltb, lit<}
 use Rattle.word_arithmetic.specs.Bits.{low, negative}
-use Rattle.word_arithmetic.specs.Sums.{complement}
+use Rattle.word_arithmetic.specs.Sums.{complement, magnitude}
 use Rattle.base_logic.specs.Laws.Choice.{of-cond, le-or-lt}
-use Rattle.word_arithmetic.specs.Laws.Sums.{complement-lt}
-use Rattle.word_shift.specs.Floating.{magnitude, coefficientOf, exponentFrom, exponentOf, storedFrom, packed}
-
-pub magnitude-lt : (x : ℕ) → x < 2 ^ 60 → magnitude x < 2 ^ 59
-unfolding magnitude
-magnitude-lt x h = of-cond (λ (r : ℕ). r < 2 ^ 59) (negative 60 x) (λ t. omega (arith, leb-true (2 ^ 59) x t)) (λ t. leb-false (2 ^ 59) x t)
+use Rattle.word_arithmetic.specs.Laws.Sums.{complement-lt, magnitude-lt}
+use Rattle.word_shift.specs.Floating.{coefficientOf, exponentFrom, exponentOf, storedFrom, packed}
 
 pub coefficient-lt : (x : ℕ) → coefficientOf x < 2 ^ 60
 unfolding coefficientOf
@@ -22,7 +18,7 @@ coefficient-lt x = of-cond (λ (r : ℕ). r < 2 ^ 60) (negative 60 x) (λ t. com
 pub exponent-lt : (x : ℕ) → x < 2 ^ 60 → exponentOf x < 2 ^ 18
 unfolding exponentOf exponentFrom
 exponent-lt x h =
-    of-cond (λ (r : ℕ). r < 2 ^ 18) (ltb (magnitude x / 2 ^ 48) 0o2000) (λ t. complement-lt 18 _) (λ t. omega (arith, magnitude-lt x h))
+    of-cond (λ (r : ℕ). r < 2 ^ 18) (ltb (magnitude 60 x / 2 ^ 48) 0o2000) (λ t. complement-lt 18 _) (λ t. omega (arith, magnitude-lt 60 x (lit< tt) h))
 
 pub stored-lt : (e : ℕ) → e < 2 ^ 11 → storedFrom e < 2 ^ 11
 unfolding storedFrom

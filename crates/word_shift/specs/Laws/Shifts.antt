@@ -1,5 +1,4 @@
 -- What the other shifts, masks and counts come to, for every width n.
-use mathlib.Core.Bool.{Bool}
 use mathlib.Core.Logic.{⊎-elim}
 use mathlib.Core.Path.{_≡_, sym, ap, ap₂, _∙_, subst}
 use Prim.Native.Nat.{ℕ, zero, suc, _+_, _-_, _*_, _/_, _%_, _^_, _≤_, _<_}
@@ -12,7 +11,7 @@ use lib.Pow.{pow-pos, pow-mono, shr-lt, shr-le, high-ones}
 use Rattle.word_arithmetic.specs.Bits.{bit, negative}
 use Rattle.base_logic.specs.Laws.Choice.{of-cond, le-or-lt}
 use Rattle.word_arithmetic.specs.Laws.Bits.{bit-shifted, bit-joined-low, bit-ones, bit-beyond, bit-ones-above, shifted-out, sign-set, sign-clear}
-use Rattle.word_shift.specs.Shifts.{mask, shiftRight, shiftRightSigned, nominalCount, nominal, nominalLeft, nominalRight, shiftA, countOnes}
+use Rattle.word_shift.specs.Shifts.{mask, shiftRight, shiftRightSigned, shiftA, countOnes}
 use Rattle.word_shift.specs.Laws.Rotation.{rotate-lt}
 
 pub mask-lt : (n k : ℕ) → mask n k < 2 ^ n
@@ -79,23 +78,6 @@ signed-fill n w k i h u l =
     long q =
         ap₂ (λ (x y : ℕ). bit (x + y) i) (shifted-out w n k h (le-of-lt q)) (mask-full n k (le-of-lt q))
         ∙ ap (λ (x : ℕ). bit x i) (zero-add (2 ^ n - 1)) ∙ bit-ones n i u
-
-pub nominal-count-lt : (b : ℕ) → nominalCount b < 2 ^ 6
-unfolding nominalCount
-nominal-count-lt b = mod-lt _ (pow-pos 6)
-
-nominal-lt : (left : Bool) (b x : ℕ) → x < 2 ^ 60 → nominal left b x < 2 ^ 60
-unfolding nominal
-nominal-lt left b x h =
-    of-cond (λ (r : ℕ). r < 2 ^ 60) left (λ t. rotate-lt 60 x (nominalCount b) (omega arith) h) (λ t. signed-lt 60 x (nominalCount b) h)
-
-pub nominal-left-lt : (b x : ℕ) → x < 2 ^ 60 → nominalLeft b x < 2 ^ 60
-unfolding nominalLeft
-nominal-left-lt b x h = nominal-lt _ b x h
-
-pub nominal-right-lt : (b x : ℕ) → x < 2 ^ 60 → nominalRight b x < 2 ^ 60
-unfolding nominalRight
-nominal-right-lt b x h = nominal-lt _ b x h
 
 pub shift-a-lt : (d a : ℕ) → a < 2 ^ 18 → shiftA d a < 2 ^ 18
 unfolding shiftA

@@ -3,7 +3,7 @@
 use super::Seen;
 use crate::instruction::{is_left_out, is_long};
 use std::fmt;
-use tozhenab::layout::{EM, FL, P, RA, STOP};
+use tozhenab::layout::{EM, P};
 
 /// 03 with each i, then 04 to 07.
 pub const BRANCHES: usize = 12;
@@ -31,15 +31,10 @@ impl CentralCodes {
 
     /// Counts the codes of one turn that was carried out.
     pub fn count(&mut self, seen: &Seen) {
-        if !seen.is_central_turn() {
-            return;
-        }
-        let lent = &seen.case.lent;
-        let (p, ra, fl) = (lent.record[P], lent.record[RA], lent.record[FL]);
-        if lent.record[STOP] == 0 && p < fl {
-            let word = lent.memory[(ra + p) as usize];
-            self.count_branch(word, p, seen.after.record[P]);
-            self.count_word(word, lent.record[EM]);
+        if let Some(word) = seen.fetched() {
+            let record = &seen.case.lent.record;
+            self.count_branch(word, record[P], seen.after.record[P]);
+            self.count_word(word, record[EM]);
         }
     }
 

@@ -2,6 +2,7 @@
 
 use super::central_codes::{branch_name, CentralCodes};
 use super::conditions::conditions;
+use super::nominal_shifts::{NominalShifts, KINDS, MAGNITUDES};
 use super::peripheral_codes::{PeripheralCodes, JUMPS, OF_CHANNELS};
 use super::{stops_of, Coverage, STOPS};
 use crate::case::{NAMES, REFUSALS};
@@ -14,6 +15,7 @@ impl fmt::Display for Coverage {
         self.write_numbers(f)?;
         self.write_stops(f)?;
         self.central.fmt(f)?;
+        self.nominal_shifts.fmt(f)?;
         self.peripheral.fmt(f)?;
         writeln!(f, "\nother conditions")?;
         for (count, (name, _)) in self.conditions.iter().zip(conditions()) {
@@ -84,6 +86,24 @@ impl fmt::Display for CentralCodes {
         for (branch, [went, stayed]) in self.branches.iter().enumerate() {
             let end = if branch % 4 == 3 { "\n" } else { "" };
             write!(f, "{:>6}{went:>7}{stayed:>7}{end}", branch_name(branch))?;
+        }
+        Ok(())
+    }
+}
+
+impl fmt::Display for NominalShifts {
+    fn fmt(&self, f: &mut fmt::Formatter) -> fmt::Result {
+        write!(f, "\n{:28}", "22 and 23 by magnitude of Bj")?;
+        MAGNITUDES
+            .iter()
+            .try_for_each(|magnitude| write!(f, "{magnitude:>7}"))?;
+        writeln!(f)?;
+        for (kind, counts) in KINDS.iter().zip(self.counts) {
+            write!(f, "{kind:>28}")?;
+            counts
+                .iter()
+                .try_for_each(|count| write!(f, "{count:>7}"))?;
+            writeln!(f)?;
         }
         Ok(())
     }

@@ -19,7 +19,7 @@ returns-3 c =
     let match = c .before .before .before .match in
     let b-of = c .before .before .b-of in
     let x-of3 = c .before .x-of3 in
-    rw (match .keys3, c .nominal-left .ensures, b-of .ensures .is, x-of3 .ensures .is)
+    rw (match .keys3, c .nominal .ensures, b-of .ensures .is, x-of3 .ensures .is)
 
 returns-4 : tie.Need-returns-4
 unfolding shiftOf
@@ -27,7 +27,7 @@ returns-4 c =
     let match = c .before .before .before .match in
     let b-of2 = c .before .before .b-of2 in
     let x-of4 = c .before .x-of4 in
-    rw (match .keys4, c .nominal-right .ensures, b-of2 .ensures .is, x-of4 .ensures .is)
+    rw (match .keys4, c .nominal2 .ensures, b-of2 .ensures .is, x-of4 .ensures .is)
 
 returns-5 : tie.Need-returns-5
 unfolding shiftOf

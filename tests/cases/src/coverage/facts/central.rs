@@ -41,15 +41,18 @@ impl Seen<'_> {
         }
     }
 
+    /// The word that a central turn fetched.
+    pub fn fetched(&self) -> Option<u64> {
+        let record = &self.case.lent.record;
+        let runs = self.is_central_turn() && record[STOP] == 0 && record[P] < record[FL];
+        runs.then(|| self.case.lent.memory[(record[RA] + record[P]) as usize])
+    }
+
     /// K less FL of a running central turn whose word begins with one of these nine-bit codes and
     /// j = 0. With j = 0 the address of 51 is K.
     pub fn direct(&self, codes: RangeInclusive<u64>) -> Option<i64> {
-        let record = &self.case.lent.record;
-        if !self.is_central_turn() || record[STOP] != 0 || record[P] >= record[FL] {
-            return None;
-        }
-        let word = self.case.lent.memory[(record[RA] + record[P]) as usize];
+        let word = self.fetched()?;
         let (code, j, k) = (word >> 51, word >> 48 & 7, word >> 30 & 0o777777);
-        (codes.contains(&code) && j == 0).then(|| k as i64 - record[FL] as i64)
+        (codes.contains(&code) && j == 0).then(|| k as i64 - self.case.lent.record[FL] as i64)
     }
 }
