@@ -38,14 +38,18 @@ pub fn magnitude18(a: u64) -> u64
     requires { ⌜ a < 2 ^ 18 ⌝ }
     ensures { λ r. ⌜ r ≡ magnitude 18 a ⌝ }
 {
-    if is_negative18(a) { complement18(a) } else { a }
+    if a < 0o400000 { a } else { complement18(a) }
 }
 
 pub fn magnitude60(a: u64) -> u64
     requires { ⌜ a < 2 ^ 60 ⌝ }
     ensures { λ r. ⌜ r ≡ magnitude 60 a ⌝ }
 {
-    if is_negative60(a) { complement60(a) } else { a }
+    if a < 0o40000000000000000000 {
+        a
+    } else {
+        complement60(a)
+    }
 }
 
 // A plain sum of all ones or more loses all ones, so that 3 - 3 is plus zero.

@@ -131,7 +131,10 @@ pub fn turn_case(rng: &mut Rng) -> Case {
         }
         match *word >> 54 {
             0o03 => lent.record[X..X + 8].fill_with(|| word_for_condition(rng)),
-            0o22 | 0o23 => lent.record[B + 1..B + 8].fill_with(|| shift_count(rng)),
+            0o22 | 0o23 => {
+                lent.record[B + 1..B + 8].fill_with(|| shift_count(rng));
+                lent.record[X..X + 8].fill_with(|| word_60(rng));
+            }
             _ => {}
         }
     }

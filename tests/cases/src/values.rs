@@ -66,12 +66,13 @@ pub fn value_18(rng: &mut Rng, fl: u64) -> u64 {
     value & ONES_18
 }
 
-/// A Bj for 22 and 23: mostly of a magnitude next to which their rules change, in either sign.
+/// A Bj for 22 and 23, in either sign: mostly of a magnitude next to which their rules change.
 pub fn shift_count(rng: &mut Rng) -> u64 {
-    let magnitude = match rng.below(4) {
+    let magnitude = match rng.below(8) {
         0 => rng.below(1 << 17),
-        1 => rng.between(2, 0o3777) << 6,
-        _ => rng.pick(&[0, 0o73, 0o74, 0o77, 0o100, 0o101, 0o377777]),
+        1 => rng.below(0o100),
+        2 => rng.between(2, 0o3777) << 6,
+        _ => rng.pick(&[0, 0o77, 0o100, 0o101, 0o377777]),
     };
     if rng.one_in(2) {
         magnitude
