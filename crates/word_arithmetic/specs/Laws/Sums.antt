@@ -1,4 +1,4 @@
--- What the sums of n bits come to, for every n.
+-- What complements, magnitudes and sums of n bits come to, for every n.
 use mathlib.Core.Bool.{not}
 use mathlib.Core.Logic.{⊎-elim}
 use mathlib.Core.Path.{_≡_, refl, sym, ap, _∙_}

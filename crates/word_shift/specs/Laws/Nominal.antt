@@ -1,9 +1,9 @@
 -- What 22 and 23 come to, for every word and every Bj. `left` is the direction that the code names, `goesLeft left b` the one that the shift has.
 use mathlib.Core.Bool.{Bool, true, false, not, cond}
 use mathlib.Core.Path.{_≡_, refl, ap, _∙_}
-use Prim.Native.Nat.{ℕ, _+_, _/_, _^_, _≤_, _<_}
+use Prim.Native.Nat.{ℕ, _+_, _-_, _/_, _^_, _≤_, _<_}
 use native.Mathlib.Omega.{arith}
-use borrow.Author.Tests.{lt-ltb, le-ltb}
+use borrow.Author.Tests.{le-leb, lt-ltb, le-ltb}
 use lib.Dec.{lit<}
 use Rattle.word_arithmetic.specs.Bits.{low, negative}
 use Rattle.word_arithmetic.specs.Sums.{complement, magnitude}
@@ -55,6 +55,11 @@ module _ (left : Bool) (b x : ℕ) where
   nominal-complement h =
       rw (negative-complement 18 b (lit< tt) h, magnitude-complement 18 b (lit< tt) h)
       (ap (λ (l : Bool). shiftedBy l (magnitude 18 b) x) (turned left (negative 18 b)))
+
+-- a negative word is all ones by 63 places to the right, and +0 by 64
+pub nominal-63-64 : (x : ℕ) → 2 ^ 59 ≤ x → x < 2 ^ 60 → (nominal false 63 x ≡ 2 ^ 60 - 1) × (nominal false 64 x ≡ 0)
+unfolding nominal goesLeft magnitude shiftedBy shiftRightSigned mask
+nominal-63-64 x l h = (simp (le-leb (2 ^ 59) x l) (omega arith), refl)
 
 -- by no places a word stays as it is
 pub nominal-zero : (left : Bool) (x : ℕ) → x < 2 ^ 60 → nominal left 0 x ≡ x
