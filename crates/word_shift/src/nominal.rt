@@ -7,6 +7,7 @@ use super::shifts::shift_right60;
 use word_arithmetic::sums::is_negative18;
 use word_arithmetic::sums::magnitude18;
 
+// A negative Bj turns the direction.
 fn goes_left(left: bool, b: u64) -> bool
     ensures { λ r. ⌜ r ≡ goesLeft left b ⌝ }
 {
