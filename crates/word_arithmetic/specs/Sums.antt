@@ -8,8 +8,8 @@ use Rattle.word_arithmetic.specs.Bits.{negative}
 abbrev pub complement : ℕ → ℕ → ℕ
 complement n a = 2 ^ n - 1 - a
 
--- the magnitude: the value, or its complement where the sign is set, as of Bj, "complemented where Bj is negative", and in 26: "a negative
--- word is complemented whole"
+-- the magnitude: the value, or its complement where the sign is set. Of Bj in 22 and 23, "complemented where Bj is negative"; of the word
+-- in 26, "a negative word is complemented whole"
 unfoldable pub magnitude : ℕ → ℕ → ℕ
 magnitude n a = cond (negative n a) (complement n a) a
 

@@ -15,10 +15,11 @@ goesLeft left b = cond (negative 18 b) (not left) left
 abbrev pub isLongRight : Bool → ℕ → Bool
 isLongRight left k = not left && ltb 63 k
 
--- a shift of x by k places: there "the result is +0"; else by "the low six bits" of k, left in a circle or right with the sign extended
+-- x by k places. In that case "the result is +0". In all others 22 and 23 "use the low six bits": "leftward shifts keep the low six bits", in a
+-- circle; to the right the sign is extended
 unfoldable pub shiftedBy : Bool → ℕ → ℕ → ℕ
 shiftedBy left k x = cond (isLongRight left k) 0 (cond left (rotateLeft 60 x (low 6 k)) (shiftRightSigned 60 x (low 6 k)))
 
--- x by Bj: "the magnitude of Bj" is Bj, "complemented where Bj is negative"
+-- x by Bj: in the direction as Bj turns it, by "the magnitude of Bj"
 unfoldable pub nominal : Bool → ℕ → ℕ → ℕ
 nominal left b x = shiftedBy (goesLeft left b) (magnitude 18 b) x

@@ -10,7 +10,7 @@ use std::fs;
 /// enough.
 const FIRST_STORED: u64 = 3000;
 const ENOUGH: u64 = 20;
-const MOST_TRIED: u64 = 500_000;
+const MOST_TRIED: u64 = 1_000_000;
 
 /// Writes the second emulator's answers to the stored cases.
 pub fn store() -> bool {
