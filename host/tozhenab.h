@@ -57,7 +57,7 @@ extern "C" {
 #define TOZHENAB_PROCESSOR_WORDS 4096 /* words of each peripheral processor */
 #define TOZHENAB_CHANNELS 12          /* channels 00 to 13 octal */
 #define TOZHENAB_PROCESSORS 10        /* most peripheral processors */
-#define TOZHENAB_JOBS 16              /* most jobs of a schedule */
+#define TOZHENAB_JOBS 11              /* most jobs of a schedule */
 #define TOZHENAB_STINTS 256           /* most stints of a schedule */
 #define TOZHENAB_TURNS 65535          /* most turns of a stint or a call, most rounds of a run */
 
@@ -144,10 +144,10 @@ uint64_t tozhenab_run_program(uint64_t *memory, size_t memory_length, const uint
                               uint64_t *result, size_t result_length);
 
 /*
- * Runs 1 to 16 programs in one memory by up to 256 stints, in the order listed. jobs: the addresses
- * of the packages. stint_jobs, stint_turns: the job (from 0) and the turns of each stint; both have
- * one length. record: a central record, which is only read. result: TOZHENAB_RAN_NUMBERS
- * for each element of stint_jobs. Refusals 1, 3, 5 to 12.
+ * Runs 1 to TOZHENAB_JOBS programs in one memory by up to TOZHENAB_STINTS stints, in the order
+ * listed. jobs: the addresses of the packages. stint_jobs, stint_turns: the job (from 0) and the
+ * turns of each stint; both have one length. record: a central record, which is only read. result:
+ * TOZHENAB_RAN_NUMBERS for each element of stint_jobs. Refusals 1, 3, 5 to 12.
  */
 uint64_t tozhenab_schedule(uint64_t *memory, size_t memory_length, const uint64_t *record,
                            size_t record_length, const uint64_t *jobs, size_t jobs_length,

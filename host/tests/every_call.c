@@ -180,6 +180,35 @@ static void schedule(void)
     expect("schedule: the word stored", memory[023], 5);
 }
 
+/* TOZHENAB_JOBS programs are accepted, and one more is not. Each has an empty field, so that its one
+ * turn stops with 3. */
+static void schedule_of_most_jobs(void)
+{
+    uint64_t memory[16 * (TOZHENAB_JOBS + 1)] = {0};
+    const uint64_t record[TOZHENAB_CENTRAL_NUMBERS] = {0};
+    uint64_t jobs[TOZHENAB_JOBS + 1];
+    const uint64_t stint_jobs[] = {TOZHENAB_JOBS - 1};
+    const uint64_t stint_turns[] = {5};
+    uint64_t ran[TOZHENAB_RAN_NUMBERS] = {7, 7};
+    size_t n;
+
+    for (n = 0; n < LENGTH(jobs); n++)
+        jobs[n] = 16 * n;
+    expect("schedule of one job too many",
+           tozhenab_schedule(memory, LENGTH(memory), record, LENGTH(record), jobs, LENGTH(jobs),
+                             stint_jobs, LENGTH(stint_jobs), stint_turns, LENGTH(stint_turns), ran,
+                             LENGTH(ran)),
+           TOZHENAB_LIST_LENGTH);
+    expect("schedule of one job too many: turns", ran[TOZHENAB_RAN_TURNS], 0);
+    expect("schedule of most jobs",
+           tozhenab_schedule(memory, LENGTH(memory), record, LENGTH(record), jobs, TOZHENAB_JOBS,
+                             stint_jobs, LENGTH(stint_jobs), stint_turns, LENGTH(stint_turns), ran,
+                             LENGTH(ran)),
+           TOZHENAB_ACCEPTED);
+    expect("schedule of most jobs: turns", ran[TOZHENAB_RAN_TURNS], 1);
+    expect("schedule of most jobs: stop", ran[TOZHENAB_RAN_STOP], 3);
+}
+
 /* Processor 1 begins with LDN 05 and LDN 07; processor 0 stops at once, since 71 is left out. */
 static void peripheral_turn_and_run(void)
 {
@@ -251,6 +280,7 @@ int main(void)
     central_turns_refused();
     run_program();
     schedule();
+    schedule_of_most_jobs();
     peripheral_turn_and_run();
     put_take_and_drop();
     return failures == 0 ? 0 : 1;

@@ -21,7 +21,7 @@ refusalNumber Refused.CentralWord = 3
 refusalNumber Refused.PeripheralWord = 4
 -- 5 record value over its width, a stop not listed for that processor, stray EM bit, nonzero B0, or RA + FL past the memory (where lent)
 refusalNumber Refused.RecordValue = 5
--- 6 no job, over 16 jobs, over 256 stints, or lists of unequal length
+-- 6 no job, more jobs or stints than there may be (their limits stand in `shared_limits`), or lists of unequal length
 -- For slices that document 01 does not describe there is one rule: a memory of a wrong length is 1 or 2, a record of a wrong length is 5,
 -- any list, result or output slice of a wrong length is 6
 refusalNumber Refused.ListLength = 6

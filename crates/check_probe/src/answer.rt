@@ -1,6 +1,7 @@
 // Writes the answer of a call: REFUSAL COUNT WORD MARK NC (address word)*NC NP (address word)*NP R0 .. R107 NS (turns stop)*NS
 ghost use Prim.Native.Nat.{_≤_};
 ghost use lib.ListN.{length};
+ghost use Rattle.shared_limits.specs.Limits.{mostStints};
 use super::given::Given;
 use super::line::Numbers;
 use super::line::RECORD;
@@ -8,6 +9,7 @@ use super::line::STINT_COUNT;
 use super::line::STINTS;
 use super::line::TURNS;
 use super::memory;
+use shared_limits::limits::MOST_STINTS;
 use word_octal::write::write_octal;
 
 type Text = [u8; 4096];
@@ -94,13 +96,13 @@ fn put_record(text: &mut Text, at: usize, numbers: &Numbers) -> usize
 
 // An answer has no more stints than a schedule, but the array does not say so.
 fn stint_count(numbers: &Numbers) -> usize
-    ensures { λ r. ⌜ r ≤ 256 ⌝ }
+    ensures { λ r. ⌜ r ≤ mostStints ⌝ }
 {
     let n = numbers[STINT_COUNT];
-    if n <= 256 {
+    if n <= MOST_STINTS as u64 {
         return n as usize;
     }
-    256
+    MOST_STINTS
 }
 
 // How many stints there are, then the turns and the stop of each.

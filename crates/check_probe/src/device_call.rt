@@ -2,6 +2,7 @@
 ghost use mathlib.Core.Path.{_≡_};
 ghost use Prim.Native.Nat.{_≤_};
 ghost use lib.ListN.{length};
+ghost use Rattle.check_probe.specs.Room.{places};
 use super::given;
 use super::given::Outcome;
 use super::line::ARGUMENT;
@@ -15,7 +16,7 @@ use host_calls::device_calls::tozhenab_put;
 use host_calls::device_calls::tozhenab_take;
 
 fn put(numbers: &mut [u64], at: usize) -> Outcome
-    requires { ⌜ length (now numbers) ≡ 648 ⌝ }
+    requires { ⌜ length (now numbers) ≡ places ⌝ }
     requires { ⌜ at ≤ 80 ⌝ }
 {
     let word = numbers[ARGUMENT];
@@ -24,7 +25,7 @@ fn put(numbers: &mut [u64], at: usize) -> Outcome
 }
 
 fn take(numbers: &mut [u64], at: usize) -> Outcome
-    requires { ⌜ length (now numbers) ≡ 648 ⌝ }
+    requires { ⌜ length (now numbers) ≡ places ⌝ }
     requires { ⌜ at ≤ 80 ⌝ }
 {
     let mut result = [0u64; 2];
@@ -33,7 +34,7 @@ fn take(numbers: &mut [u64], at: usize) -> Outcome
 }
 
 fn drop(numbers: &mut [u64], at: usize) -> Outcome
-    requires { ⌜ length (now numbers) ≡ 648 ⌝ }
+    requires { ⌜ length (now numbers) ≡ places ⌝ }
     requires { ⌜ at ≤ 80 ⌝ }
 {
     let refusal = tozhenab_drop(&mut numbers[at..at + 4]);

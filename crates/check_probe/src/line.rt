@@ -2,6 +2,14 @@
 // CALL ARG CW NC (address word)*NC PW NP (address word)*NP R0 .. R107 NJ job*NJ NS job*NS NT turns*NT
 // Words go into the memories. All other numbers go into one array at the places below, where each list has all its room.
 ghost use Prim.Native.Nat.{_<_};
+ghost use Rattle.check_probe.specs.Room.{places};
+use shared_limits::limits::MOST_JOBS;
+use shared_limits::limits::MOST_STINTS;
+
+// Lists that are too long are tried too: of jobs up to twice the limit, of stints one entry more.
+pub(crate) const JOB_ROOM: usize = 2 * MOST_JOBS;
+
+pub(crate) const STINT_ROOM: usize = MOST_STINTS + 1;
 
 pub(crate) const CALL: usize = 0;
 
@@ -26,17 +34,17 @@ pub(crate) const JOB_COUNT: usize = 114;
 
 pub(crate) const JOBS: usize = 115;
 
-pub(crate) const STINT_COUNT: usize = 132;
+pub(crate) const STINT_COUNT: usize = JOBS + JOB_ROOM;
 
-pub(crate) const STINTS: usize = 133;
+pub(crate) const STINTS: usize = STINT_COUNT + 1;
 
-pub(crate) const TURN_COUNT: usize = 390;
+pub(crate) const TURN_COUNT: usize = STINTS + STINT_ROOM;
 
-pub(crate) const TURNS: usize = 391;
+pub(crate) const TURNS: usize = TURN_COUNT + 1;
 // One past the last place: the line is complete.
-const END: usize = 648;
+pub(crate) const END: usize = TURNS + STINT_ROOM;
 
-pub(crate) type Numbers = [u64; 648];
+pub(crate) type Numbers = [u64; END];
 
 // What the next number of a line is.
 pub(crate) enum Next {
@@ -123,7 +131,7 @@ fn list(first: usize, n: u64, after: usize) -> Position
 
 // After one number of a list.
 fn in_list(place: usize, left: u64, after: usize) -> Position
-    requires { ⌜ place < 648 ⌝ }
+    requires { ⌜ place < places ⌝ }
 {
     if left <= 1 {
         return number_at(after);
@@ -136,7 +144,7 @@ fn in_list(place: usize, left: u64, after: usize) -> Position
 
 // After the number n at this place.
 fn after_number(place: usize, n: u64, left: u64) -> Position
-    requires { ⌜ place < 648 ⌝ }
+    requires { ⌜ place < places ⌝ }
 {
     match place {
         CENTRAL_COUNT => pairs(Next::CentralAddress, n, PERIPHERAL_LENGTH),

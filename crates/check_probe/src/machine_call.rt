@@ -1,6 +1,7 @@
 // The calls on the whole machine: a turn of a peripheral processor and a run.
 ghost use mathlib.Core.Path.{_≡_};
 ghost use lib.ListN.{length};
+ghost use Rattle.check_probe.specs.Room.{places};
 use super::given;
 use super::given::Outcome;
 use super::line::ARGUMENT;
@@ -14,7 +15,7 @@ pub(crate) fn answer_turn(
     peripheral: &mut [u16],
     numbers: &mut [u64],
 ) -> Outcome
-    requires { ⌜ length (now numbers) ≡ 648 ⌝ }
+    requires { ⌜ length (now numbers) ≡ places ⌝ }
 {
     let processor = numbers[ARGUMENT];
     let refusal = tozhenab_peripheral_turn(
@@ -31,7 +32,7 @@ pub(crate) fn answer_run(
     peripheral: &mut [u16],
     numbers: &mut [u64],
 ) -> Outcome
-    requires { ⌜ length (now numbers) ≡ 648 ⌝ }
+    requires { ⌜ length (now numbers) ≡ places ⌝ }
 {
     let rounds = numbers[ARGUMENT];
     let mut result = [0u64; 1];

@@ -11,6 +11,7 @@ mod memory;
 mod reader;
 mod schedule_call;
 
+use line::END;
 use line::Numbers;
 use reader::Reader;
 
@@ -52,6 +53,6 @@ fn read_all(central: &mut [u64], peripheral: &mut [u16], numbers: &mut Numbers) 
 fn main() {
     let mut central = [0u64; 131073];
     let mut peripheral = [0u16; 45056];
-    let mut numbers = [0u64; 648];
+    let mut numbers = [0u64; END];
     read_all(&mut central, &mut peripheral, &mut numbers);
 }

@@ -1,20 +1,24 @@
 // The schedule of the three lists of the line.
 ghost use Prim.Native.Nat.{_≤_};
+ghost use Rattle.check_probe.specs.Room.{jobRoom, stintRoom};
 use super::given;
 use super::given::Outcome;
 use super::line::CLOCK;
 use super::line::JOB_COUNT;
+use super::line::JOB_ROOM;
 use super::line::JOBS;
 use super::line::Numbers;
 use super::line::RECORD;
 use super::line::STINT_COUNT;
+use super::line::STINT_ROOM;
 use super::line::STINTS;
 use super::line::TURN_COUNT;
 use super::line::TURNS;
 use host_calls::schedule_call::tozhenab_schedule;
+use shared_limits::limits::MOST_STINTS;
 
 // The turns and the stop of each stint.
-type Results = [u64; 514];
+type Results = [u64; 2 * STINT_ROOM];
 
 fn make_schedule(
     memory: &mut [u64],
@@ -24,9 +28,9 @@ fn make_schedule(
     turns: usize,
     result: &mut Results,
 ) -> u64
-    requires { ⌜ jobs ≤ 17 ⌝ }
-    requires { ⌜ stints ≤ 257 ⌝ }
-    requires { ⌜ turns ≤ 257 ⌝ }
+    requires { ⌜ jobs ≤ jobRoom ⌝ }
+    requires { ⌜ stints ≤ stintRoom ⌝ }
+    requires { ⌜ turns ≤ stintRoom ⌝ }
 {
     let all = &numbers[..];
     tozhenab_schedule(
@@ -41,7 +45,7 @@ fn make_schedule(
 
 // The turns and the stops of the stints replace the lists of the line.
 fn keep_stints(numbers: &mut Numbers, result: &Results) {
-    for i in 0..256usize {
+    for i in 0..MOST_STINTS {
         numbers[STINTS + i] = result[2 * i];
         numbers[TURNS + i] = result[2 * i + 1];
     }
@@ -61,16 +65,16 @@ pub(crate) fn answer(memory: &mut [u64], numbers: &mut Numbers) -> Outcome {
     let jobs = numbers[JOB_COUNT];
     let stints = numbers[STINT_COUNT];
     let turns = numbers[TURN_COUNT];
-    if 17 < jobs {
+    if (JOB_ROOM as u64) < jobs {
         return Outcome::Unreadable;
     }
-    if 257 < stints {
+    if (STINT_ROOM as u64) < stints {
         return Outcome::Unreadable;
     }
-    if 257 < turns {
+    if (STINT_ROOM as u64) < turns {
         return Outcome::Unreadable;
     }
-    let mut result = [0u64; 514];
+    let mut result = [0u64; 2 * STINT_ROOM];
     let refusal = make_schedule(
         &mut *memory,
         &*numbers,

@@ -2,7 +2,7 @@
 use mathlib.Core.Bool.{cond}
 use mathlib.Core.List.{List, _++_}
 use mathlib.Core.Path.{_≡_}
-use Prim.Native.Nat.{ℕ, _≤_}
+use Prim.Native.Nat.{ℕ, _+_, _*_, _≤_}
 use lib.Dec.{leb}
 use lib.ListN.{length, drop}
 use lib.Seq.{sets}
@@ -11,7 +11,8 @@ use Rattle.base_outcome.specs.declared.refusal.Refusal.the-variants as Refusal
 use Rattle.base_outcome.specs.declared.refusal.Verdict.{Verdict}
 use Rattle.base_outcome.specs.declared.refusal.Verdict.the-variants as Call
 use Rattle.base_lists.specs.Written.{Wrote}
-use Rattle.shared_schedule.specs.Refusals.{mostStints, scheduleVerdict}
+use Rattle.shared_limits.specs.Limits.{mostStints}
+use Rattle.shared_schedule.specs.Refusals.{scheduleVerdict}
 use Rattle.shared_schedule.specs.Schedule.{Schedule}
 use Rattle.shared_calls.specs.Answer.{scheduleAnswer}
 use Rattle.shared_calls.specs.declared.call.ScheduleAnswer.{ScheduleAnswer}
@@ -24,9 +25,9 @@ use Rattle.console_calls.specs.Console.{scheduleIn, printed, outputOn}
 use Rattle.console_calls.specs.declared.finish.Output.{Output}
 use Rattle.console_calls.specs.declared.finish.Output.the-variants.{Bytes, Refused}
 
--- the room that every answer fits in: 256 stints of 93 bytes at most, and 4,096 words of 44 bytes at most
+-- the room that every answer fits in: the most stints, each of 93 bytes at most, and 4,096 words of 44 bytes at most
 abbrev pub mostBytes : ℕ
-mostBytes = 204032
+mostBytes = 93 * mostStints + 44 * 4096
 
 -- the bytes that an answer takes up
 abbrev pub bytesIn : Output → ℕ

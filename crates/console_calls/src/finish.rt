@@ -11,9 +11,10 @@ use console_answer::refused::write_refused;
 use console_reader::reader::Reader;
 use console_reader::reader::is_complete;
 use console_reader::reader::reader_verdict;
+use shared_limits::limits::MOST_STINTS;
 
-// The room that every answer fits in: 256 stints of 93 bytes at most, and 4,096 words of 44 bytes at most.
-pub const OUTPUT_BYTES: usize = 204032;
+// The room that every answer fits in: the most stints, each of 93 bytes at most, and 4,096 words of 44 bytes at most.
+pub const OUTPUT_BYTES: usize = 93 * MOST_STINTS + 44 * 4096;
 
 // What becomes of the end of an input.
 pub enum Output {

@@ -1,8 +1,9 @@
 -- What progress, the lent memory and the lent lists hold of an input: the reading of its lines so far.
 use mathlib.Core.List.{List}
 use mathlib.Core.Path.{_≡_}
-use Prim.Native.Nat.{ℕ, _≤_}
+use Prim.Native.Nat.{ℕ, _+_, _≤_}
 use lib.ListN.{length, take}
+use Rattle.shared_limits.specs.Limits.{mostJobs, mostStints}
 use Rattle.console_grammar.specs.Reading.{Request, request, Reading, noLine, readable, unreadable, afterWords, inBlock, inJobs, inStints}
 use Rattle.console_grammar.specs.declared.progress.Part.{Part}
 use Rattle.console_grammar.specs.declared.progress.Part.the-variants as Last
@@ -45,10 +46,10 @@ stintsInUse p n = record { part = Last.Stints; words = p .words; jobs = p .jobs;
 
 -- the lengths of the lent lists: one entry more than a schedule may have, so that a list that is too long is kept too long
 abbrev pub jobEntries : ℕ
-jobEntries = 17
+jobEntries = mostJobs + 1
 
 abbrev pub stintEntries : ℕ
-stintEntries = 257
+stintEntries = mostStints + 1
 
 -- the counts are within the lent memory and lists
 pub record CountsFit (p : Progress) : Type 0 where

@@ -1,11 +1,13 @@
 // How far an input was read.
 ghost use mathlib.Core.Path.{_≡_};
 ghost use Rattle.console_grammar.specs.Held.{unreadableProgress, jobsInUse, stintsInUse};
+use shared_limits::limits::MOST_JOBS;
+use shared_limits::limits::MOST_STINTS;
 
 // The lengths of the lent lists: one entry more than a schedule may have, so that a list that is too long is kept too long.
-pub const JOB_ENTRIES: usize = 17;
+pub const JOB_ENTRIES: usize = MOST_JOBS + 1;
 
-pub const STINT_ENTRIES: usize = 257;
+pub const STINT_ENTRIES: usize = MOST_STINTS + 1;
 
 // The kind of the last line.
 pub enum Part {

@@ -1,4 +1,4 @@
--- What a schedule's stints hand back, as arrays of 256 entries.
+-- What a schedule's stints hand back, as arrays with an entry for each stint that there may be.
 use mathlib.Core.List.{List, [], _++_}
 use mathlib.Core.Path.{_≡_}
 use Prim.Native.Nat.{ℕ, _-_, _≤_}
@@ -7,7 +7,8 @@ use Rattle.base_outcome.specs.Numbers.{verdictNumber}
 use Rattle.base_outcome.specs.declared.refusal.Verdict.the-variants as Call
 use Rattle.base_outcome.specs.declared.refusal.Verdict.{Verdict}
 use Rattle.central_record.specs.declared.record.Central.{Central}
-use Rattle.shared_schedule.specs.Refusals.{mostStints, scheduleVerdict}
+use Rattle.shared_limits.specs.Limits.{mostStints}
+use Rattle.shared_schedule.specs.Refusals.{scheduleVerdict}
 use Rattle.shared_schedule.specs.Ready.{Ready, Listed}
 use Rattle.shared_schedule.specs.Schedule.{Schedule, ScheduleEnd, scheduleEnd}
 use Rattle.shared_calls.specs.declared.call.ScheduleAnswer.{ScheduleAnswer}

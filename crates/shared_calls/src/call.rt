@@ -5,14 +5,15 @@ ghost use Rattle.shared_schedule.specs.Schedule.{scheduleOf};
 use super::stints::run_stints;
 use base_outcome::refusal::Verdict;
 use central_record::record::Central;
+use shared_limits::limits::MOST_STINTS;
 use shared_verdict::verdict::schedule_verdict;
 
 // The verdict, the record, and of each stint the turns made and the stop's number, or 0. Entries past the last stint are 0.
 pub struct ScheduleAnswer {
     pub verdict: Verdict,
     pub central: Central,
-    pub turns: [u64; 256],
-    pub stops: [u64; 256],
+    pub turns: [u64; MOST_STINTS],
+    pub stops: [u64; MOST_STINTS],
 }
 
 // Runs the jobs, given by the addresses of their packages, in stints, given by the job and the turns of each.
@@ -44,8 +45,8 @@ pub fn schedule(
         Verdict::Refused(r) => ScheduleAnswer {
             verdict: Verdict::Refused(r),
             central,
-            turns: [0; 256],
-            stops: [0; 256],
+            turns: [0; MOST_STINTS],
+            stops: [0; MOST_STINTS],
         },
     }
 }

@@ -1,3 +1,3 @@
-// SHARED: up to sixteen programs in one memory, run by a schedule of stints.
+// SHARED: several programs in one memory, run by a schedule of stints.
 pub mod call;
 pub mod stints;

@@ -5,13 +5,14 @@ ghost use lib.ListN.{length, getD};
 ghost use Rattle.shared_schedule.specs.Schedule.{stintsOf};
 ghost use Rattle.shared_calls.specs.Answer.{MayRun, stintsTo, inArrays};
 use central_record::record::Central;
+use shared_limits::limits::MOST_STINTS;
 use single_stint::stint::stint;
 
 // The record after the stints, and of each stint the turns made and the stop's number, or 0. Entries past the last stint are 0.
 pub struct StintsEnd {
     pub central: Central,
-    pub turns: [u64; 256],
-    pub stops: [u64; 256],
+    pub turns: [u64; MOST_STINTS],
+    pub stops: [u64; MOST_STINTS],
 }
 
 // The address of a listed job's package.
@@ -36,8 +37,8 @@ pub(crate) fn run_stints(
         ≡ inArrays (stintsOf (now (jobs .entry)) (now («stint_jobs» .entry)) (now («stint_turns» .entry)) (now (m .entry)) c) ⌝ }
 {
     let mut central = c;
-    let mut turns: [u64; 256] = [0; 256];
-    let mut stops: [u64; 256] = [0; 256];
+    let mut turns: [u64; MOST_STINTS] = [0; MOST_STINTS];
+    let mut stops: [u64; MOST_STINTS] = [0; MOST_STINTS];
     let mut k: usize = 0;
     while k < stint_jobs.len() {
         let at = package_of(jobs, stint_jobs[k]);

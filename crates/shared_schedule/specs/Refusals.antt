@@ -13,19 +13,13 @@ use Rattle.central_record.specs.Record.{below, hostVerdict}
 use Rattle.base_outcome.specs.Order.{orElse}
 use Rattle.base_lists.specs.Overlap.{sharesWord}
 use Rattle.single_calls.specs.Turns.{mostTurns}
+use Rattle.shared_limits.specs.Limits.{mostStints, jobsFit}
 use Rattle.shared_schedule.specs.Schedule.{Schedule}
 
-abbrev pub mostJobs : ℕ
-mostJobs = 16
-
-abbrev pub mostStints : ℕ
-mostStints = 256
-
--- 6 "no job, over 16 jobs, over 256 stints, or lists of unequal length": none of these
+-- 6 "no job, over .. jobs, over .. stints, or lists of unequal length": none of these. The two limits stand in `shared_limits`
 unfoldable pub listsFit : List ℕ → List ℕ → List ℕ → Bool
 listsFit jobs stintJobs stintTurns =
-    leb 1 (length jobs)
-    && leb (length jobs) mostJobs
+    jobsFit (length jobs)
     && leb (length stintJobs) mostStints
     && eqb (length stintJobs) (length stintTurns)
 

@@ -2,20 +2,19 @@
 use base_outcome::refusal::Refusal;
 use base_outcome::refusal::Verdict;
 use central_record::record::all_below;
+use shared_limits::limits::MOST_STINTS;
+use shared_limits::limits::jobs_fit;
 ghost use mathlib.Core.Path.{_≡_};
 ghost use Rattle.shared_schedule.specs.Refusals.{listsFit, jobsListed, turnsFit, listsVerdict};
 
-// One to sixteen jobs, at most 256 stints, and a job and turns for each.
+// Jobs and stints within their limits, and a job and turns for each stint.
 fn lists_fit(jobs: &[u64], js: &[u64], ts: &[u64]) -> bool
     ensures { λ r. ⌜ r ≡ listsFit (now (jobs .entry)) (now (js .entry)) (now (ts .entry)) ⌝ }
 {
-    if jobs.len() == 0 {
+    if !jobs_fit(jobs.len()) {
         return false;
     }
-    if 16 < jobs.len() {
-        return false;
-    }
-    if 256 < js.len() {
+    if MOST_STINTS < js.len() {
         return false;
     }
     js.len() == ts.len()

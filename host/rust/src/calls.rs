@@ -105,9 +105,9 @@ pub fn run_program(
     Ok(Ran { turns, stop })
 }
 
-/// Runs 1 to 16 programs in one memory, whose packages are at the addresses in `jobs`, by up to 256
-/// stints in the order listed, and tells of each stint what it made. The central record is left as
-/// it was.
+/// Runs 1 to [`MOST_JOBS`](crate::limits::MOST_JOBS) programs in one memory, whose packages are at
+/// the addresses in `jobs`, by up to [`MOST_STINTS`](crate::limits::MOST_STINTS) stints in the order
+/// listed, and tells of each stint what it made. The central record is left as it was.
 pub fn schedule(
     memory: &mut [u64],
     record: &CentralRecord,

@@ -7,7 +7,7 @@
 //! - those of [`flat`] take the slices of numbers that the C functions of `tozhenab.h` take, and
 //!   give the number of the refusal, or 0.
 //!
-//! [`layout`] names the places of a flat record's values.
+//! [`layout`] names the places of a flat record's values, and [`limits`] how much a call takes.
 //!
 //! Any memory, record, address and count gets an answer. After a refusal memories and records are
 //! as they were. Where more than one refusal is due, the one with the lowest number is given.
@@ -18,6 +18,7 @@ mod calls;
 #[allow(unsafe_code)]
 pub mod flat;
 pub mod layout;
+pub mod limits;
 mod record;
 mod refusal;
 

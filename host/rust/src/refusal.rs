@@ -20,8 +20,9 @@ pub enum Refusal {
     /// not zero, RA + FL is past the end of memory, or a flat record has another length or a
     /// channel's flag over 1.
     RecordValue,
-    /// 6: no job, over 16 jobs, over 256 stints, lists of stints of unequal length, or a result
-    /// slice that is too short.
+    /// 6: no job, over [`MOST_JOBS`](crate::limits::MOST_JOBS) jobs, over
+    /// [`MOST_STINTS`](crate::limits::MOST_STINTS) stints, lists of stints of unequal length, or a
+    /// result slice that is too short.
     ListLength,
     /// 7: a stint of a job that is not listed.
     UnlistedJob,

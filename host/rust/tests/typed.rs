@@ -1,5 +1,6 @@
 //! The calls over records with named fields: one that is carried out and one that is refused each.
 
+use tozhenab::limits::MOST_JOBS;
 use tozhenab::{CentralRecord, Channel, MachineRecord, Ran, Refusal, Stint, Taken};
 
 /// X6 = 5, A6 = 3, which stores X6 at 3.
@@ -113,6 +114,36 @@ fn a_schedule() {
         tozhenab::schedule(&mut lent, &central, &[0, 0], &[]),
         Err(Refusal::SharedWord)
     );
+}
+
+/// A memory of so many jobs with empty fields, and the addresses of their packages.
+fn many_jobs(count: usize) -> (Vec<u64>, Vec<u64>) {
+    let addresses = (0..count as u64).map(|job| 16 * job).collect();
+    (vec![0; 16 * count], addresses)
+}
+
+#[test]
+fn as_many_jobs_as_there_may_be() {
+    let (mut lent, jobs) = many_jobs(MOST_JOBS);
+    let stints: Vec<Stint> = (0..MOST_JOBS as u64)
+        .map(|job| Stint { job, turns: 5 })
+        .collect();
+    let ran = tozhenab::schedule(&mut lent, &CentralRecord::default(), &jobs, &stints);
+    assert_eq!(ran, Ok(vec![Ran { turns: 1, stop: 3 }; MOST_JOBS]));
+}
+
+#[test]
+fn more_jobs_than_there_may_be() {
+    for count in (MOST_JOBS + 1..=2 * MOST_JOBS).chain([256 + MOST_JOBS]) {
+        let (mut lent, jobs) = many_jobs(count);
+        let stints = [Stint { job: 0, turns: 1 }];
+        assert_eq!(
+            tozhenab::schedule(&mut lent, &CentralRecord::default(), &jobs, &stints),
+            Err(Refusal::ListLength),
+            "{count} jobs"
+        );
+        assert_eq!(lent, vec![0; 16 * count]);
+    }
 }
 
 #[test]

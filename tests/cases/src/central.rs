@@ -6,9 +6,7 @@ use crate::package::{package_of, WORDS};
 use crate::rng::Rng;
 use crate::values::{shift_count, value_18, word_60, word_for_condition};
 use tozhenab::layout::{A, B, CENTRAL_NUMBERS, EM, FL, P, RA, STOP, X};
-
-/// Most words of central memory.
-pub const MOST_WORDS: usize = 131_072;
+use tozhenab::limits::MOST_WORDS;
 
 /// A length of central memory: mostly small.
 pub fn memory_length(rng: &mut Rng) -> usize {

@@ -1,18 +1,16 @@
 //! Jobs placed in memory, and cases of many turns, of the run of a program and of a schedule.
 
 use crate::case::{Call, Case, Lent};
-use crate::central::{central_lent, central_record, fill_registers, program_address, MOST_WORDS};
+use crate::central::{central_lent, central_record, fill_registers, program_address};
 use crate::instruction::fill_field;
 use crate::package::{package_of, WORDS};
 use crate::rng::Rng;
 use crate::values::{result_slice, word_60};
 use tozhenab::layout::{CENTRAL_NUMBERS, EM, FL, P, RA};
+use tozhenab::limits::{MOST_JOBS, MOST_STINTS, MOST_TURNS, MOST_WORDS};
 
 /// Most words of a field that is filled with a program.
 const MOST_FILLED: usize = 256;
-
-/// Most turns of a stint or a call.
-pub const MOST_TURNS: u64 = 65_535;
 
 /// Where a job's package and field are.
 #[derive(Clone, Copy, Default)]
@@ -151,16 +149,18 @@ pub fn program_case(rng: &mut Rng) -> Case {
     case(rng, call, memory)
 }
 
-/// A schedule: mostly of few jobs and stints, at times of as many as there may be.
+/// A schedule: mostly of few jobs and stints, at times of as many as there may be, or of up to six
+/// jobs more with nothing else at fault.
 pub fn schedule_case(rng: &mut Rng) -> Case {
-    let count = match rng.below(16) {
-        0 => 16,
-        1 | 2 => 5 + rng.place(12),
+    let count = match rng.below(32) {
+        0 | 1 => MOST_JOBS,
+        2..=5 => 5 + rng.place(MOST_JOBS - 4),
+        6 => MOST_JOBS + 1 + rng.place(6),
         _ => 1 + rng.place(4),
     };
     let stints = match rng.below(64) {
-        0 => 256,
-        1 => 200 + rng.place(57),
+        0 => MOST_STINTS,
+        1 => 200 + rng.place(MOST_STINTS - 199),
         2 => 0,
         _ => 1 + rng.place(8),
     };

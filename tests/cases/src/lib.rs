@@ -25,4 +25,3 @@ mod values;
 
 pub use case::{Call, Case, Lent};
 pub use generate::generate;
-pub use job::MOST_TURNS;

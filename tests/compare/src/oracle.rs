@@ -6,16 +6,18 @@
 //! room for counts, else what it held before.
 
 use crate::record::{self, Parts};
-use cases::{Call, Lent, MOST_TURNS};
+use cases::{Call, Lent};
 use second::machine::Machine;
 use second::{Made, Requests};
 use tozhenab::layout::{CENTRAL_NUMBERS, MACHINE_NUMBERS, P, PROCESSORS};
+use tozhenab::limits::MOST_TURNS;
 
 /// The requests of document 02 that have landed here; the second emulator answers with these in force.
 const LANDED: Requests = Requests {
     b: true,
     c: true,
     e: true,
+    j: true,
     ..Requests::none()
 };
 

@@ -11,7 +11,8 @@ use Rattle.base_outcome.specs.declared.refusal.Verdict.the-variants as Call
 use Rattle.base_outcome.specs.declared.refusal.Refusal.the-variants as Refusal
 use Rattle.central_record.specs.Record.{hostVerdict}
 use Rattle.base_outcome.specs.Order.{orElse}
-use Rattle.shared_schedule.specs.Refusals.{mostJobs, mostStints, listsFit, listsVerdict, ownersVerdict, scheduleVerdict}
+use Rattle.shared_limits.specs.Limits.{mostJobs, mostStints}
+use Rattle.shared_schedule.specs.Refusals.{listsFit, listsVerdict, ownersVerdict, scheduleVerdict}
 use Rattle.shared_schedule.specs.Schedule.{Schedule}
 use Rattle.shared_schedule.specs.Laws.Refusals.{lists-fit}
 use Rattle.console_grammar.specs.Reading.{Request, Reading, noLine, readable, unreadable}

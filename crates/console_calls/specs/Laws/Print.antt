@@ -11,7 +11,8 @@ use Rattle.base_outcome.specs.declared.refusal.Verdict.the-variants as Call
 use Rattle.base_lists.specs.Written.{Wrote}
 use Rattle.base_lists.specs.Laws.Written.{length-wrote, wrote-then}
 use Rattle.central_record.specs.declared.record.Central.{Central}
-use Rattle.shared_schedule.specs.Refusals.{mostStints, scheduleVerdict}
+use Rattle.shared_limits.specs.Limits.{mostStints}
+use Rattle.shared_schedule.specs.Refusals.{scheduleVerdict}
 use Rattle.shared_schedule.specs.Schedule.{Schedule, scheduleEnd, scheduleOf}
 use Rattle.shared_schedule.specs.Laws.Refusals.{ListsAccepted, accepted-lists}
 use Rattle.shared_calls.specs.Answer.{ScheduleAnswered, scheduleAnswerTo, scheduleAnswerBy, scheduleAnswer}

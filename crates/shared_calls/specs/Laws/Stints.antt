@@ -9,6 +9,7 @@ use lib.Seq.{length-take-le, drop-cons, drop-drop, drop-set-lt, take-suc-set, ap
 use Rattle.central_record.specs.declared.record.Central.{Central}
 use Rattle.single_stint.specs.Stint as Single
 use Rattle.single_stint.specs.Stint.{StintMemory, stintOf}
+use Rattle.shared_limits.specs.Limits.{mostStints}
 use Rattle.shared_schedule.specs.Laws.Stint.{stint-may-run, length-kept, still-ready}
 use Rattle.shared_schedule.specs.Ready.{Ready}
 use Rattle.shared_schedule.specs.Schedule.{ScheduleEnd, stintThen, stintsOf}
@@ -19,20 +20,20 @@ joined xs ys o = record { memory = o .memory; central = o .central; turns = xs +
 
 -- an array of results with 0 from entry k on
 pub record ResultsFilled (k : ℕ) (xs : List ℕ) : Type 0 where
-  pub size : length xs ≡ 256
-  pub zeros : drop k xs ≡ replicate (256 - k) 0
+  pub size : length xs ≡ mostStints
+  pub zeros : drop k xs ≡ replicate (mostStints - k) 0
 
-filled-more : (k : ℕ) (xs : List ℕ) (v : ℕ) → k < 256 → ResultsFilled k xs → ResultsFilled (k + 1) (set xs k v)
+filled-more : (k : ℕ) (xs : List ℕ) (v : ℕ) → k < mostStints → ResultsFilled k xs → ResultsFilled (k + 1) (set xs k v)
 filled-more k xs v h f =
     record {
       size = length-set xs k v ∙ f .size;
       zeros =
-          let e : 256 - k ≡ suc (256 - (k + 1)) = omega arith in
+          let e : mostStints - k ≡ suc (mostStints - (k + 1)) = omega arith in
           drop-set-lt (k + 1) xs k v (omega arith) ∙ sym (drop-drop 1 k xs) ∙ ap (drop 1) (f .zeros ∙ ap (λ (n : ℕ). replicate n 0) e);
     }
 
 -- an array filled up to k is the list of its first k entries with zeros after it
-filled-all : (k : ℕ) (xs : List ℕ) → k ≤ 256 → ResultsFilled k xs → padded (take k xs) ≡ xs
+filled-all : (k : ℕ) (xs : List ℕ) → k ≤ mostStints → ResultsFilled k xs → padded (take k xs) ≡ xs
 filled-all k xs h f =
     rw (length-take-le k xs (omega (arith, f .size)), ← f .zeros) (take-append-drop k xs)
 
@@ -45,7 +46,7 @@ pub record StintsGoing (jobs js ts m₀ : List ℕ) (c₀ : Central) (m : List �
   pub stops-filled : ResultsFilled k stops
   pub is : joined (take k turns) (take k stops) (stintsOf jobs (drop k js) (drop k ts) m c) ≡ stintsOf jobs js ts m₀ c₀
 
-pub stints-going-start : (jobs js ts m : List ℕ) (c : Central) → MayRun m c jobs js ts → StintsGoing jobs js ts m c m c (replicate 256 0) (replicate 256 0) 0
+pub stints-going-start : (jobs js ts m : List ℕ) (c : Central) → MayRun m c jobs js ts → StintsGoing jobs js ts m c m c (replicate mostStints 0) (replicate mostStints 0) 0
 stints-going-start jobs js ts m c may =
     record {
       may = may;
@@ -61,7 +62,7 @@ module _ (jobs js ts m₀ : List ℕ) (c₀ : Central) (m : List ℕ) (c : Centr
   pub stints-going-end : length js ≤ k → stintsTo m (record { central = c; turns = turns; stops = stops }) ≡ inArrays (stintsOf jobs js ts m₀ c₀)
   unfolding stintsOf
   stints-going-end l =
-      let most : k ≤ 256 = omega (arith, g .upto, g .may .most) in
+      let most : k ≤ mostStints = omega (arith, g .upto, g .may .most) in
       let none : drop k js ≡ [] = drop-of-length-le js l in
       let is = rw (none, append-nil (take k turns), append-nil (take k stops)) at (g .is) in
       rw (← is, filled-all k turns most (g .turns-filled), filled-all k stops most (g .stops-filled))
@@ -82,7 +83,7 @@ module _ (jobs js ts m₀ : List ℕ) (c₀ : Central) (m : List ℕ) (c : Centr
     unfolding stintsOf
     next-stint = rw (add-one, drop-cons js k 0 l, drop-cons ts k 0 (omega (arith, g .may .even)))
 
-    entry-more : (xs zs : List ℕ) (v : ℕ) → length xs ≡ 256 → take (k + 1) (set xs k v) ++ zs ≡ take k xs ++ (v ∷ zs)
+    entry-more : (xs zs : List ℕ) (v : ℕ) → length xs ≡ mostStints → take (k + 1) (set xs k v) ++ zs ≡ take k xs ++ (v ∷ zs)
     entry-more xs zs v e = rw (add-one, take-suc-set xs k v (omega (arith, g .may .most))) (append-snoc (take k xs) v zs)
 
     module _ (o : StintMemory) (e : o ≡ made) where

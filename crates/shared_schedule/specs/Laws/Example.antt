@@ -1,10 +1,11 @@
--- A worked corollary of demand 3: a job alone, and the same job among fifteen others.
+-- A worked corollary of demand 3: a job alone, and the same job among as many others as a schedule may list.
 use mathlib.Core.Path.{_≡_, refl, sym}
 use Prim.Native.Nat.{ℕ, _≤_, _<_}
 use native.Mathlib.Nat.{add-zero}
 use native.Mathlib.Omega.{arith}
 use lib.Dec.{lit<}
 use lib.ListN.{length}
+use Rattle.shared_limits.specs.Limits.{mostJobs}
 use Rattle.shared_schedule.specs.Isolation.{ScheduleAccepted, packageAddress, ofJob, total, turnsAsked, NoneButLast, StopsInLastOnly, EndsAlike}
 use Rattle.shared_schedule.specs.Laws.Isolation.{isolation}
 use Rattle.shared_schedule.specs.Laws.OneJob.{oneJob, one-accepted}
@@ -38,7 +39,7 @@ module _ (s : Schedule) (a : ScheduleAccepted s) (i : ℕ) (li : i < length (s .
       isolation s (alone s i) a alone-accepted i 0 li (lit< tt) last one-stint
       (record { packages = refl; fields = refl; asked = sym asked-alone })
 
--- a job among fifteen others
-pub among-fifteen-others : (s : Schedule) → ScheduleAccepted s → length (s .jobs) ≡ 16 → (i : ℕ) → i < 16 → turnsAsked s i ≤ 65535
+-- a job among as many others as there may be
+pub among-most-others : (s : Schedule) → ScheduleAccepted s → length (s .jobs) ≡ mostJobs → (i : ℕ) → i < mostJobs → turnsAsked s i ≤ 65535
     → StopsInLastOnly s i → EndsAlike s i (alone s i) 0
-among-fifteen-others s a sixteen i li most last = ends-as-alone s a i (omega arith) most last
+among-most-others s a all i li most last = ends-as-alone s a i (omega arith) most last

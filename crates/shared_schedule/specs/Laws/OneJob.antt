@@ -15,6 +15,7 @@ use Rattle.exchange_jump.specs.Laws.Verdicts.{of-host-accepted, of-package-acce
 use Rattle.central_record.specs.declared.record.Central.{Central}
 use Rattle.base_outcome.specs.Order.{orElse}
 use Rattle.single_calls.specs.Turns.{mostTurns, turnsVerdict}
+use Rattle.shared_limits.specs.Limits.{jobsFit}
 use Rattle.single_calls.specs.Program.{overlapVerdict, ownerVerdict, programVerdict}
 use Rattle.base_outcome.specs.Laws.Verdict.{or-else-assoc}
 use Rattle.single_stint.specs.Stint as Single
@@ -29,7 +30,7 @@ module _ (m : List ℕ) (at n : ℕ) where
   unlessTooMany fit = cond fit Call.Accepted (Call.Refused Refusal.TooManyTurns)
 
   one-list : listsVerdict (at ∷ []) (0 ∷ []) (n ∷ []) ≡ unlessTooMany (leb n mostTurns)
-  unfolding listsVerdict listsFit jobsListed turnsFit allBelow
+  unfolding listsVerdict listsFit jobsFit jobsListed turnsFit allBelow
   one-list = refl
 
   -- the order of the tests of one package, and of its field against it

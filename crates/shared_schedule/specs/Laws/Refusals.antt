@@ -19,8 +19,10 @@ use Rattle.central_record.specs.Record.{hostVerdict}
 use Rattle.central_record.specs.declared.record.Central.{Central}
 use Rattle.base_outcome.specs.Laws.Verdict.{both-accept}
 use Rattle.single_calls.specs.Turns.{mostTurns}
+use Rattle.shared_limits.specs.Laws.Limits.{jobs-fit}
+use Rattle.shared_limits.specs.Limits.{mostJobs, mostStints, jobsFit}
 use Rattle.shared_schedule.specs.Isolation.{ScheduleAccepted}
-use Rattle.shared_schedule.specs.Refusals.{mostJobs, mostStints, listsFit, jobsListed, turnsFit, listsVerdict, everyJob, packageMeetsField, packagesMeet, fieldsMeet, jobsApart, allApart, ownersVerdict, scheduleVerdict}
+use Rattle.shared_schedule.specs.Refusals.{listsFit, jobsListed, turnsFit, listsVerdict, everyJob, packageMeetsField, packagesMeet, fieldsMeet, jobsApart, allApart, ownersVerdict, scheduleVerdict}
 use Rattle.shared_schedule.specs.Ready.{Ready, Listed}
 use Rattle.shared_schedule.specs.Schedule.{Schedule}
 
@@ -34,14 +36,14 @@ pub record ListsFit (jobs js ts : List ℕ) : Type 0 where
 pub lists-fit : (jobs js ts : List ℕ) → listsFit jobs js ts ≡ true → ListsFit jobs js ts
 unfolding listsFit
 lists-fit jobs js ts e =
-    let b₃ = both (leb 1 (length jobs) && leb (length jobs) mostJobs && leb (length js) mostStints) (eqb (length js) (length ts)) e in
-    let b₂ = both (leb 1 (length jobs) && leb (length jobs) mostJobs) (leb (length js) mostStints) (b₃ .0) in
-    let b₁ = both (leb 1 (length jobs)) (leb (length jobs) mostJobs) (b₂ .0) in
+    let b₂ = both (jobsFit (length jobs) && leb (length js) mostStints) (eqb (length js) (length ts)) e in
+    let b₁ = both (jobsFit (length jobs)) (leb (length js) mostStints) (b₂ .0) in
+    let few = jobs-fit (length jobs) (b₁ .0) in
     record {
-      some-job = leb-true 1 (length jobs) (b₁ .0);
-      most-jobs = leb-true (length jobs) mostJobs (b₁ .1);
-      most-stints = leb-true (length js) mostStints (b₂ .1);
-      even = eqb-true (length js) (length ts) (b₃ .1);
+      some-job = few .0;
+      most-jobs = few .1;
+      most-stints = leb-true (length js) mostStints (b₁ .1);
+      even = eqb-true (length js) (length ts) (b₂ .1);
     }
 
 -- numbers 6 to 8 do not refuse

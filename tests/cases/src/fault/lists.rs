@@ -2,6 +2,7 @@
 
 use crate::case::{Call, Case};
 use crate::rng::Rng;
+use tozhenab::limits::{MOST_JOBS, MOST_STINTS, MOST_TURNS};
 
 /// A result that is too short or, of a schedule, a list of a length that is not allowed.
 pub fn list_length(rng: &mut Rng, case: &mut Case) {
@@ -13,10 +14,10 @@ pub fn list_length(rng: &mut Rng, case: &mut Case) {
     {
         match rng.below(6) {
             0 => jobs.clear(),
-            1 => jobs.resize(17 + rng.place(3), 0),
+            1 => jobs.resize(MOST_JOBS + 1 + rng.place(MOST_JOBS), 0),
             2 => {
-                stint_jobs.resize(257, 0);
-                stint_turns.resize(257, 1);
+                stint_jobs.resize(MOST_STINTS + 1, 0);
+                stint_turns.resize(MOST_STINTS + 1, 1);
             }
             3 => stint_turns.push(1),
             4 => stint_jobs.push(0),
@@ -39,7 +40,7 @@ pub fn unlisted_job(rng: &mut Rng, call: &mut Call) {
     } = call
     {
         let count = jobs.len() as u64;
-        let job = rng.pick(&[count, count + 1, 16, 255, 1 << 32, u64::MAX]);
+        let job = rng.pick(&[count, count + 1, MOST_JOBS as u64, 255, 1 << 32, u64::MAX]);
         if !stint_jobs.is_empty() {
             let at = rng.place(stint_jobs.len());
             stint_jobs[at] = job;
@@ -48,7 +49,7 @@ pub fn unlisted_job(rng: &mut Rng, call: &mut Call) {
 }
 
 pub fn too_many_turns(rng: &mut Rng, call: &mut Call) {
-    let many = rng.pick(&[65_536, 65_537, 131_072, 1 << 32, u64::MAX]);
+    let many = rng.pick(&[MOST_TURNS + 1, MOST_TURNS + 2, 131_072, 1 << 32, u64::MAX]);
     match call {
         Call::CentralTurns { turns } | Call::RunProgram { turns, .. } => *turns = many,
         Call::Run { rounds } => *rounds = many,

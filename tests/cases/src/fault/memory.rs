@@ -1,11 +1,11 @@
 //! Numbers 1 to 4: lengths and words of the memories.
 
 use crate::case::{Call, Case};
-use crate::central::MOST_WORDS;
 use crate::peripheral::WORDS;
 use crate::rng::Rng;
 use crate::values::{over, ONES_60};
 use tozhenab::layout::PROCESSORS;
+use tozhenab::limits::MOST_WORDS;
 
 pub fn central_length(rng: &mut Rng, memory: &mut Vec<u64>) {
     if rng.one_in(8) {

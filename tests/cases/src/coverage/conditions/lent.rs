@@ -1,9 +1,9 @@
 //! What is lent: records, results and memories.
 
 use super::Condition;
-use crate::central::MOST_WORDS;
 use crate::peripheral::WORDS;
 use tozhenab::layout::PROCESSORS;
+use tozhenab::limits::MOST_WORDS;
 
 pub const CONDITIONS: &[Condition] = &[
     ("5: a record of another length", |s| {

@@ -2,6 +2,7 @@
 
 use crate::case::Call;
 use crate::coverage::Seen;
+use tozhenab::limits::MOST_JOBS;
 
 impl Seen<'_> {
     /// The number of jobs of a schedule.
@@ -10,6 +11,13 @@ impl Seen<'_> {
             Call::Schedule { jobs, .. } => Some(jobs.len()),
             _ => None,
         }
+    }
+
+    /// Number 6 for so many jobs over the limit, where nothing else is at fault.
+    pub fn has_jobs_too_many(&self, more: usize) -> bool {
+        self.has_wrong_lists()
+            && self.case.faults.is_empty()
+            && self.jobs() == Some(MOST_JOBS + more)
     }
 
     /// The lengths of the two lists of stints of a schedule.
@@ -37,10 +45,13 @@ impl Seen<'_> {
 
     /// A stop of a stint, and turns made in a later stint of its job.
     pub fn ran_after_stop(&self) -> bool {
-        let Call::Schedule { stint_jobs, .. } = &self.case.call else {
+        let Call::Schedule {
+            jobs, stint_jobs, ..
+        } = &self.case.call
+        else {
             return false;
         };
-        let mut stopped = [false; 16];
+        let mut stopped = vec![false; jobs.len()];
         let mut stints = stint_jobs.iter().zip(self.after.result.chunks_exact(2));
         self.number == 0
             && stints.any(|(&job, ran)| {

@@ -1,0 +1,2 @@
+-- The definitions that the contracts of `check_probe` cite.
+pub mod Room

@@ -1,0 +1,2 @@
+-- Consequences of the definitions.
+pub mod Limits

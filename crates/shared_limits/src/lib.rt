@@ -1,0 +1,2 @@
+// The limits of a schedule's lists.
+pub mod limits;
