@@ -61,7 +61,7 @@ fn fields_inside(m: &[u64], jobs: &[u64]) -> bool
 }
 
 // The package of job i and the field of job j share no word; of two different jobs the packages share none either, nor the fields.
-fn jobs_apart(m: &[u64], jobs: &[u64], i: usize, j: usize) -> bool
+pub fn jobs_apart(m: &[u64], jobs: &[u64], i: usize, j: usize) -> bool
     requires { ⌜ Inside (now m) (now jobs) ⌝ }
     requires { ⌜ (i < length (now jobs)) × (j < length (now jobs)) ⌝ }
     ensures { λ r. ⌜ r ≡ jobsApart (now (m .entry)) (now (jobs .entry)) i j ⌝ }
@@ -84,7 +84,7 @@ fn jobs_apart(m: &[u64], jobs: &[u64], i: usize, j: usize) -> bool
 }
 
 // Job i against every job, itself included.
-fn apart_from_all(m: &[u64], jobs: &[u64], i: usize) -> bool
+pub fn apart_from_all(m: &[u64], jobs: &[u64], i: usize) -> bool
     requires { ⌜ Inside (now m) (now jobs) ⌝ }
     requires { ⌜ i < length (now jobs) ⌝ }
     ensures { λ r. ⌜ r ≡ allBelow (length (now (jobs .entry))) (jobsApart (now (m .entry)) (now (jobs .entry)) i) ⌝ }
