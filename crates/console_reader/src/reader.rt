@@ -47,7 +47,7 @@ pub fn start() -> Reader
 
 // The bytes of a line are taken at once, and progress is touched once a line: so reading is fast. One place calls `fill`: with two, the turns
 // of the console program took a fifth longer, since the compiler makes nearly one function of it.
-fn feed_all(
+pub fn feed_all(
     r: Reader,
     bytes: &[u8],
     memory: &mut [u64],

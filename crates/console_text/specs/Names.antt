@@ -27,3 +27,16 @@ stopIs = 115 ∷ 116 ∷ 111 ∷ 112 ∷ 61 ∷ []
 
 abbrev pub refusedIs : List ℕ
 refusedIs = 114 ∷ 101 ∷ 102 ∷ 117 ∷ 115 ∷ 101 ∷ 100 ∷ 61 ∷ []
+
+-- in the lines that say why an input is refused: line=, rule=, package= and field=
+abbrev pub lineIs : List ℕ
+lineIs = 108 ∷ 105 ∷ 110 ∷ 101 ∷ 61 ∷ []
+
+abbrev pub ruleIs : List ℕ
+ruleIs = 114 ∷ 117 ∷ 108 ∷ 101 ∷ 61 ∷ []
+
+abbrev pub packageIs : List ℕ
+packageIs = 112 ∷ 97 ∷ 99 ∷ 107 ∷ 97 ∷ 103 ∷ 101 ∷ 61 ∷ []
+
+abbrev pub fieldIs : List ℕ
+fieldIs = 102 ∷ 105 ∷ 101 ∷ 108 ∷ 100 ∷ 61 ∷ []

@@ -16,7 +16,7 @@ pub length-octal-line : (name : List ℕ) (v : ℕ) → length (line name (octal
 length-octal-line name v = simp length-append (omega (arith, length-octal v))
 
 pub length-decimal-line : (name : List ℕ) (n : ℕ) → length (line name (decimal n)) ≤ length name + 3
-length-decimal-line name n = simp length-append (omega (arith, length-decimal n))
+length-decimal-line name n = simp length-append (omega (arith, length-decimal 2 n))
 
 pub length-refused : (number : ℕ) → length (refusedText number) ≤ 11
 unfolding refusedText
@@ -25,7 +25,7 @@ length-refused number = length-decimal-line refusedIs number
 pub length-stint : (index job turns stop : ℕ) → length (stintText index job turns stop) ≤ 93
 unfolding stintText
 length-stint index job turns stop =
-    simp length-append (omega (arith, length-octal index, length-octal job, length-octal turns, length-decimal stop))
+    simp length-append (omega (arith, length-octal index, length-octal job, length-octal turns, length-decimal 2 stop))
 
 pub length-stints : (index : ℕ) (jobs turns stops : List ℕ) → length (stintsText index jobs turns stops) ≤ 93 * length jobs
 unfolding stintsText

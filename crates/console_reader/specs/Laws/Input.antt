@@ -17,7 +17,7 @@ use Rattle.console_grammar.specs.Held.{firsts, keep, jobEntries, stintEntries}
 use Rattle.console_reader.specs.Laws.BytesRead.{Feeding, feeding, feedTo, feedAll, nothingFed, endOf}
 
 -- what is cut off a list may as well be cut off once more is added
-cut-more : (n : ℕ) (l x : List ℕ) → take n (take n l ++ x) ≡ take n (l ++ x)
+pub cut-more : (n : ℕ) (l x : List ℕ) → take n (take n l ++ x) ≡ take n (l ++ x)
 cut-more zero l x = refl
 cut-more (suc n) [] x = refl
 cut-more (suc n) (a ∷ l) x = ap (λ (t : List ℕ). a ∷ t) (cut-more n l x)
@@ -72,7 +72,7 @@ keep-job inJobs q a = job-firsts q a
 keep-job inStints q a = refl
 
 -- a line after what was kept does what it does after all
-keep-line : (x : Reading) (line : Line) → keep (lineTo (keep x) line) ≡ keep (lineTo x line)
+pub keep-line : (x : Reading) (line : Line) → keep (lineTo (keep x) line) ≡ keep (lineTo x line)
 unfolding lineTo
 keep-line noLine line = refl
 keep-line (readable part q) (Words n) = refl

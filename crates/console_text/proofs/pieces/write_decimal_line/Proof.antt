@@ -10,7 +10,7 @@ write-text-requires-2 : tie.Need-write-text-requires-2
 write-text-requires-2 c κs =
     let name = c .before .before .before .before .before .before .before .before .write-text .ensures in
     let value = c .before .before .before .before .write-decimal .ensures in
-    omega (arith, name .ends, length-wrote name, value .ends, length-wrote value, length-decimal (c .before .before .before .before .before .before .before .before .before .before .before .before .args .value))
+    omega (arith, name .ends, length-wrote name, value .ends, length-wrote value, length-decimal 2 (c .before .before .before .before .before .before .before .before .before .before .before .before .args .value))
 
 returns : tie.Need-returns
 returns c =

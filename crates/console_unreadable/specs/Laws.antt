@@ -1,0 +1,5 @@
+-- Consequences of the definitions.
+pub mod Tracker
+pub mod Exact
+pub mod Held
+pub mod Whole
