@@ -1,4 +1,4 @@
 // The console: the lines of an input in, the lines of its answer out.
 pub mod finish;
-mod run;
+pub mod run;
 pub mod whole;

@@ -15,7 +15,7 @@ use shared_calls::call::ScheduleAnswer;
 use shared_calls::call::schedule;
 
 // The record that the console lends.
-fn zero_record() -> Central
+pub fn zero_record() -> Central
     ensures { λ r. ⌜ r ≡ zeroRecord ⌝ }
 {
     Central {

@@ -26,11 +26,11 @@ kept-whole zero (x ∷ l) h = absurd (omega arith)
 kept-whole (suc n) [] h = refl
 kept-whole (suc n) (x ∷ l) h = ap (λ (t : List ℕ). x ∷ t) (kept-whole n l (omega arith))
 
-abbrev fit : Request → Bool
+abbrev pub fit : Request → Bool
 fit q = listsFit (q .jobs) (q .stintJobs) (q .stintTurns)
 
 -- lists that fit were kept whole
-firsts-fit : (q : Request) → fit (firsts q) ≡ true → firsts q ≡ q
+pub firsts-fit : (q : Request) → fit (firsts q) ≡ true → firsts q ≡ q
 firsts-fit q e =
     let s = lists-fit (take jobEntries (q .jobs)) (take stintEntries (q .stintJobs)) (take stintEntries (q .stintTurns)) e in
     rw (
@@ -39,7 +39,7 @@ firsts-fit q e =
       kept-whole mostStints (q .stintTurns) (omega (arith, s .most-stints, s .even)),
     )
 
-fits-firsts : (q : Request) → fit q ≡ true → firsts q ≡ q
+pub fits-firsts : (q : Request) → fit q ≡ true → firsts q ≡ q
 fits-firsts q e =
     let s = lists-fit (q .jobs) (q .stintJobs) (q .stintTurns) e in
     rw (
@@ -49,7 +49,7 @@ fits-firsts q e =
     )
 
 -- lists that do not fit are refused with 6, or with a lower number that does not depend on them
-abbrev refusedBy : Verdict → Verdict
+abbrev pub refusedBy : Verdict → Verdict
 refusedBy Call.Accepted = Call.Refused Refusal.ListLength
 refusedBy (Call.Refused r) = Call.Refused r
 
@@ -57,7 +57,7 @@ refused-first : (v w : Verdict) → orElse v (orElse (Call.Refused Refusal.ListL
 refused-first Call.Accepted w = refl
 refused-first (Call.Refused r) w = refl
 
-unfit : (q : Request) → fit q ≡ false → scheduleVerdict (scheduleIn q) ≡ refusedBy (hostVerdict (q .memory) zeroRecord)
+pub unfit : (q : Request) → fit q ≡ false → scheduleVerdict (scheduleIn q) ≡ refusedBy (hostVerdict (q .memory) zeroRecord)
 unfolding scheduleVerdict listsVerdict
 unfit q e = rw e (refused-first (hostVerdict (q .memory) zeroRecord) (ownersVerdict (q .memory) (q .jobs)))
 
