@@ -66,7 +66,9 @@ extern "C" {
  * another length, a value is over its width, a stop is not listed for that processor, EM has a bit
  * outside 070000, B0 is not 0, a channel's flag is over 1, or RA + FL is past the end of memory.
  *
- * Central record. P, RA, FL, EM, A and B have 18 bits, X 60. The stop is 0 or 1 to 5; 0 is running.
+ * Central record. P, RA, FL, EM, A and B have 18 bits, X 60. The stop is 0, 1 to 5, 7 or 8; 0 is
+ * running. An operand of a floating code that is infinite is stop 7 where EM has the bit 020000, and
+ * one that is indefinite is stop 8 where it has 040000.
  */
 #define TOZHENAB_CENTRAL_NUMBERS 29
 #define TOZHENAB_CENTRAL_P 0

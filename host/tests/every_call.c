@@ -54,6 +54,45 @@ static void exchange_and_central_turn(void)
     expect("central turn: the word stored", memory[023], 5);
 }
 
+/* X6 = X1 + X2, floating, of an infinite X1 and then of an indefinite X2 too: stops 7 and 8 by the
+ * bits of EM. A record may hold them, but not 6 or 9. */
+static void stops_of_operands(void)
+{
+    uint64_t memory[WORDS];
+    uint64_t record[TOZHENAB_CENTRAL_NUMBERS] = {0};
+    uint64_t *stop = &record[TOZHENAB_CENTRAL_STOP];
+
+    load(memory);
+    memory[020] = UINT64_C(030612460004600046000);
+    record[TOZHENAB_CENTRAL_RA] = 020;
+    record[TOZHENAB_CENTRAL_FL] = 4;
+    record[TOZHENAB_CENTRAL_EM] = 020000;
+    record[TOZHENAB_CENTRAL_X + 1] = UINT64_C(03777) << 48;
+    expect("sum of an infinite operand",
+           tozhenab_central_turn(memory, LENGTH(memory), record, LENGTH(record)),
+           TOZHENAB_ACCEPTED);
+    expect("sum of an infinite operand: stop", *stop, 7);
+    *stop = 0;
+    record[TOZHENAB_CENTRAL_EM] = 060000;
+    record[TOZHENAB_CENTRAL_X + 2] = UINT64_C(01777) << 48;
+    expect("sum of an indefinite operand",
+           tozhenab_central_turn(memory, LENGTH(memory), record, LENGTH(record)),
+           TOZHENAB_ACCEPTED);
+    expect("sum of an indefinite operand: stop", *stop, 8);
+    expect("sum of an indefinite operand: X6", record[TOZHENAB_CENTRAL_X + 6], 0);
+    expect("turn of a record with stop 8",
+           tozhenab_central_turn(memory, LENGTH(memory), record, LENGTH(record)),
+           TOZHENAB_ACCEPTED);
+    *stop = 6;
+    expect("turn of a record with stop 6",
+           tozhenab_central_turn(memory, LENGTH(memory), record, LENGTH(record)),
+           TOZHENAB_RECORD_VALUE);
+    *stop = 9;
+    expect("turn of a record with stop 9",
+           tozhenab_central_turn(memory, LENGTH(memory), record, LENGTH(record)),
+           TOZHENAB_RECORD_VALUE);
+}
+
 /* n turns and then k are n + k: one and four on one memory, five on another. */
 static void central_turns(void)
 {
@@ -276,6 +315,7 @@ static void put_take_and_drop(void)
 int main(void)
 {
     exchange_and_central_turn();
+    stops_of_operands();
     central_turns();
     central_turns_refused();
     run_program();

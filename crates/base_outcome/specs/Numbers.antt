@@ -1,4 +1,5 @@
--- The number that document 01 gives to each refusal ("Who can be turned down") and each stop ("Central turn", "Peripheral turn").
+-- The number that document 01 gives to each refusal ("Who can be turned down") and each stop ("Central turn", "Peripheral turn"), and document 02
+-- to stops 7 and 8.
 -- "Where an answer is an enum, a definition tells you this paper's number and values for each of its cases. The promises use that definition."
 use mathlib.Core.Bool.{Bool, _&&_, _||_}
 use Prim.Native.Nat.{ℕ}
@@ -58,10 +59,13 @@ centralStopNumber Central.FetchOutside = 3
 centralStopNumber Central.UnfitCode = 4
 -- 5 a 30-bit code begun in the last parcel
 centralStopNumber Central.LastParcel = 5
+-- document 02, (f): 7 an infinite operand with EM bit 020000; 8 an indefinite one with 040000
+centralStopNumber Central.InfiniteOperand = 7
+centralStopNumber Central.IndefiniteOperand = 8
 
--- the stops that a central record may hold: 0, for none, or 1 to 5; any other is "a stop not listed for that processor"
+-- the stops that a central record may hold: 0, for none, 1 to 5, 7 or 8; any other is "a stop not listed for that processor"
 abbrev pub centralStopListed : ℕ → Bool
-centralStopListed n = leb n 5
+centralStopListed n = leb n 5 || eqb n 7 || eqb n 8
 
 abbrev pub peripheralStopNumber : PeripheralStop → ℕ
 -- 31 central address of 60 or 62 at or past the end

@@ -1,4 +1,4 @@
-// Central stops 1 to 5 and peripheral stops 31 to 36. A record holds 0 for a processor that runs.
+// Central stops 1 to 5, 7 and 8, and peripheral stops 31 to 36. A record holds 0 for a processor that runs.
 ghost use mathlib.Core.Path.{_≡_};
 ghost use Rattle.base_outcome.specs.Numbers.{centralStopNumber, peripheralStopNumber};
 
@@ -14,6 +14,10 @@ pub enum CentralStop {
     UnfitCode,
     // A 30-bit code begun in the last parcel.
     LastParcel,
+    // An infinite operand of a floating code, with the EM bit 020000.
+    InfiniteOperand,
+    // An indefinite operand of a floating code, with the EM bit 040000.
+    IndefiniteOperand,
 }
 
 impl CentralStop {
@@ -26,6 +30,8 @@ impl CentralStop {
             CentralStop::FetchOutside => 3,
             CentralStop::UnfitCode => 4,
             CentralStop::LastParcel => 5,
+            CentralStop::InfiniteOperand => 7,
+            CentralStop::IndefiniteOperand => 8,
         }
     }
 }

@@ -4,9 +4,9 @@ use mathlib.Core.List.{List}
 use Prim.Native.Nat.{ℕ, _+_}
 use lib.Dec.{eqb, ltb}
 use lib.ListN.{getD, set}
-use Rattle.word_arithmetic.specs.Bits.{bit}
 use Rattle.base_outcome.specs.declared.stop.CentralStop.the-variants as Because
 use Rattle.central_registers.specs.Registers.{xOf, setA, setB, setX}
+use Rattle.central_effect.specs.Floating.{emSet}
 use Rattle.central_effect.specs.declared.effect.CentralEffect.{CentralEffect}
 use Rattle.central_effect.specs.declared.effect.CentralEffect.the-variants.{Pass, Stop, Jump, ReturnJump, SetA, SetB, SetX, SetXB}
 use Rattle.central_apply.specs.declared.apply.Step.the-variants as Then
@@ -27,7 +27,7 @@ after r f s = record { state = state r f; step = s }
 
 -- EM bit 010000, which is bit 12
 abbrev pub stopsOutside : Bounds → Bool
-stopsOutside b = eqb (bit (b .em) 12) 1
+stopsOutside b = emSet (b .em) 12
 
 -- "Every setting of A1 to A5 reads into X1 to X5, and of A6, A7 stores X6, X7 ... Outside the field without the EM bit, a read gives zero
 -- and a store is dropped; with it, X and memory keep their values."

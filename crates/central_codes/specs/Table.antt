@@ -11,10 +11,14 @@ use Rattle.central_codes.specs.Codes.{isFit, parcelsOf}
 unfoldable pub entryOf : ℕ → ℕ → ℕ
 entryOf c i = 15 * parcelsOf c + cond (isFit c i) 0 64
 
+-- the entry of the nine-bit beginning n, which is the code and i
+abbrev pub entryAt : ℕ → ℕ
+entryAt n = entryOf (n / 8) (n % 8)
+
 -- the entries from the beginning n on are those of the rule, and the last is that of the beginning 777
 unfoldable pub followsFrom : ℕ → List ℕ → Bool
 followsFrom n [] = eqb n 0o1000
-followsFrom n (e ∷ t) = eqb e (entryOf (n / 8) (n % 8)) && followsFrom (suc n) t
+followsFrom n (e ∷ t) = eqb e (entryAt n) && followsFrom (suc n) t
 
 -- the one test of the whole sheet
 abbrev pub followsRule : List ℕ → Bool

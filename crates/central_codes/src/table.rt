@@ -2,7 +2,7 @@
 ghost use mathlib.Core.Bool.{true};
 ghost use mathlib.Core.Path.{_≡_};
 ghost use Prim.Native.Nat.{_<_};
-ghost use Rattle.central_codes.specs.Table.{entryOf, followsRule};
+ghost use Rattle.central_codes.specs.Table.{entryAt, followsRule};
 
 // An entry is the length of the code in bits, and this much more where the code is unfit. So the entry of an unfit code exceeds the bits of
 // any word, and one comparison with the bits that remain of a word finds stops 4 and 5.
@@ -181,14 +181,14 @@ const TABLE: [u8; 512] = [
     FIT_15, // 235
     FIT_15, // 236
     FIT_15, // 237
-    UNFIT_15, // 240
-    UNFIT_15, // 241
-    UNFIT_15, // 242
-    UNFIT_15, // 243
-    UNFIT_15, // 244
-    UNFIT_15, // 245
-    UNFIT_15, // 246
-    UNFIT_15, // 247
+    FIT_15, // 240
+    FIT_15, // 241
+    FIT_15, // 242
+    FIT_15, // 243
+    FIT_15, // 244
+    FIT_15, // 245
+    FIT_15, // 246
+    FIT_15, // 247
     UNFIT_15, // 250
     UNFIT_15, // 251
     UNFIT_15, // 252
@@ -213,38 +213,38 @@ const TABLE: [u8; 512] = [
     FIT_15, // 275
     FIT_15, // 276
     FIT_15, // 277
-    UNFIT_15, // 300
-    UNFIT_15, // 301
-    UNFIT_15, // 302
-    UNFIT_15, // 303
-    UNFIT_15, // 304
-    UNFIT_15, // 305
-    UNFIT_15, // 306
-    UNFIT_15, // 307
-    UNFIT_15, // 310
-    UNFIT_15, // 311
-    UNFIT_15, // 312
-    UNFIT_15, // 313
-    UNFIT_15, // 314
-    UNFIT_15, // 315
-    UNFIT_15, // 316
-    UNFIT_15, // 317
-    UNFIT_15, // 320
-    UNFIT_15, // 321
-    UNFIT_15, // 322
-    UNFIT_15, // 323
-    UNFIT_15, // 324
-    UNFIT_15, // 325
-    UNFIT_15, // 326
-    UNFIT_15, // 327
-    UNFIT_15, // 330
-    UNFIT_15, // 331
-    UNFIT_15, // 332
-    UNFIT_15, // 333
-    UNFIT_15, // 334
-    UNFIT_15, // 335
-    UNFIT_15, // 336
-    UNFIT_15, // 337
+    FIT_15, // 300
+    FIT_15, // 301
+    FIT_15, // 302
+    FIT_15, // 303
+    FIT_15, // 304
+    FIT_15, // 305
+    FIT_15, // 306
+    FIT_15, // 307
+    FIT_15, // 310
+    FIT_15, // 311
+    FIT_15, // 312
+    FIT_15, // 313
+    FIT_15, // 314
+    FIT_15, // 315
+    FIT_15, // 316
+    FIT_15, // 317
+    FIT_15, // 320
+    FIT_15, // 321
+    FIT_15, // 322
+    FIT_15, // 323
+    FIT_15, // 324
+    FIT_15, // 325
+    FIT_15, // 326
+    FIT_15, // 327
+    FIT_15, // 330
+    FIT_15, // 331
+    FIT_15, // 332
+    FIT_15, // 333
+    FIT_15, // 334
+    FIT_15, // 335
+    FIT_15, // 336
+    FIT_15, // 337
     UNFIT_15, // 340
     UNFIT_15, // 341
     UNFIT_15, // 342
@@ -549,13 +549,11 @@ fn widened(x: u8) -> u64
     x as u64
 }
 
-// The entry of the code with this i.
-pub fn entry_of(t: &[u8; 512], code: u64, i: u64) -> u64
+// The entry of the nine-bit beginning n.
+pub fn entry_of(t: &[u8; 512], n: u64) -> u64
     requires { ⌜ followsRule (now t) ≡ true ⌝ }
-    requires { ⌜ code < 64 ⌝ }
-    requires { ⌜ i < 8 ⌝ }
-    ensures { λ e. ⌜ e ≡ entryOf code i ⌝ }
+    requires { ⌜ n < 512 ⌝ }
+    ensures { λ e. ⌜ e ≡ entryAt n ⌝ }
 {
-    let n = code * 8 + i;
     widened(t[n as usize])
 }

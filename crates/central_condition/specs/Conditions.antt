@@ -1,26 +1,15 @@
 -- The conditions of the branches 03 to 07.
-use Prim.Native.Nat.{ℕ, _-_, _/_, _^_}
+use Prim.Native.Nat.{ℕ, _-_, _^_}
 use mathlib.Core.Bool.{Bool, true, false, not, _||_, cond}
 use mathlib.Core.List.{List, [], _∷_}
 use lib.Dec.{eqb, ltb}
 use lib.ListN.{getD}
 use Rattle.word_arithmetic.specs.Bits.{negative}
+use Rattle.floating_word.specs.Special.{isInfinite, isIndefinite}
 
 -- either zero
 abbrev pub isZero : ℕ → Bool
 isZero x = eqb x 0 || eqb x (2 ^ 60 - 1)
-
--- the top 12 bits are a or b
-abbrev pub topIs : ℕ → ℕ → ℕ → Bool
-topIs x a b = eqb (x / 2 ^ 48) a || eqb (x / 2 ^ 48) b
-
--- "out of range (top 12 bits 3777 or 4000)"
-abbrev pub isOutOfRange : ℕ → Bool
-isOutOfRange x = topIs x 0o3777 0o4000
-
--- "indefinite (1777 or 6000)"
-abbrev pub isIndefinite : ℕ → Bool
-isIndefinite x = topIs x 0o1777 0o6000
 
 -- 03, i = 0 to 7: "Xj zero (either zero), not zero, plus, minus, in range, out of range (top 12 bits 3777 or 4000), definite,
 -- indefinite (1777 or 6000)"
@@ -30,8 +19,8 @@ wordConditions x =
     ∷ not (isZero x)
     ∷ not (negative 60 x)
     ∷ negative 60 x
-    ∷ not (isOutOfRange x)
-    ∷ isOutOfRange x
+    ∷ not (isInfinite x)
+    ∷ isInfinite x
     ∷ not (isIndefinite x)
     ∷ isIndefinite x
     ∷ []

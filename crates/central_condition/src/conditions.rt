@@ -1,7 +1,9 @@
 // The conditions of the branches 03 to 07.
 ghost use mathlib.Core.Path.{_≡_};
 ghost use Prim.Native.Nat.{_<_, _≤_};
-ghost use Rattle.central_condition.specs.Conditions.{isZero, topIs, isOutOfRange, isIndefinite, wordCondition, isLess, comparison};
+ghost use Rattle.central_condition.specs.Conditions.{isZero, wordCondition, isLess, comparison};
+use floating_word::special::is_indefinite;
+use floating_word::special::is_infinite;
 use word_arithmetic::sums::is_negative60;
 
 fn is_zero(x: u64) -> bool
@@ -10,26 +12,7 @@ fn is_zero(x: u64) -> bool
     x == 0 || x == 0o77777777777777777777
 }
 
-fn top_is(x: u64, a: u64, b: u64) -> bool
-    ensures { λ r. ⌜ r ≡ topIs x a b ⌝ }
-{
-    let top = x >> 48;
-    top == a || top == b
-}
-
-fn is_out_of_range(x: u64) -> bool
-    ensures { λ r. ⌜ r ≡ isOutOfRange x ⌝ }
-{
-    top_is(x, 0o3777, 0o4000)
-}
-
-fn is_indefinite(x: u64) -> bool
-    ensures { λ r. ⌜ r ≡ isIndefinite x ⌝ }
-{
-    top_is(x, 0o1777, 0o6000)
-}
-
-// Code 03 with i, of Xj.
+// Code 03 with i, of Xj. Out of range is infinite.
 pub fn word_condition(i: u64, x: u64) -> bool
     requires { ⌜ i < 8 ⌝ }
     ensures { λ r. ⌜ r ≡ wordCondition i x ⌝ }
@@ -39,8 +22,8 @@ pub fn word_condition(i: u64, x: u64) -> bool
         1 => !is_zero(x),
         2 => !is_negative60(x),
         3 => is_negative60(x),
-        4 => !is_out_of_range(x),
-        5 => is_out_of_range(x),
+        4 => !is_infinite(x),
+        5 => is_infinite(x),
         6 => !is_indefinite(x),
         _ => is_indefinite(x),
     }

@@ -14,6 +14,7 @@ use Rattle.word_shift.specs.Floating.{coefficientOf, exponentOf, packed}
 use Rattle.base_outcome.specs.declared.stop.CentralStop.the-variants as Because
 use Rattle.central_registers.specs.Registers.{aOf, bOf, xOf}
 use Rattle.central_decode.specs.declared.instruction.Instruction.{Instruction}
+use Rattle.central_effect.specs.Floating.{normalizeTo, floatingSumTo}
 use Rattle.central_effect.specs.declared.effect.CentralEffect.{CentralEffect}
 use Rattle.central_effect.specs.declared.effect.CentralEffect.the-variants.{Pass, Stop, Jump, ReturnJump, SetA, SetB, SetX, SetXB}
 
@@ -46,27 +47,37 @@ branchOf r q m p =
 unfoldable pub unpackTo : ℕ → ℕ → ℕ → CentralEffect
 unpackTo i j x = SetXB i (coefficientOf x) j (exponentOf x)
 
--- 20 to 27: 20 and 21 shift Xi by jk, 22 (nominally left) and 23 (nominally right) Xk by Bj, 26 unpacks Xk, 27 packs it with Bj
-abbrev pub shifts : List ℕ → Instruction → List CentralEffect
-shifts r q =
+-- 20 to 27: 20 and 21 shift Xi by jk, 22 (nominally left) and 23 (nominally right) Xk by Bj, 24 normalizes Xk, 26 unpacks it, 27 packs it with Bj
+abbrev pub shifts : List ℕ → Instruction → ℕ → List CentralEffect
+shifts r q em =
     SetX (q .i) (rotateLeft 60 (xOf r (q .i)) (q .jk))
     ∷ SetX (q .i) (shiftRightSigned 60 (xOf r (q .i)) (q .jk))
     ∷ SetX (q .i) (nominal true (bOf r (q .j)) (xOf r (q .k)))
     ∷ SetX (q .i) (nominal false (bOf r (q .j)) (xOf r (q .k)))
-    ∷ leftOut
+    ∷ normalizeTo em (q .i) (q .j) (xOf r (q .k))
     ∷ leftOut
     ∷ unpackTo (q .i) (q .j) (xOf r (q .k))
     ∷ SetX (q .i) (packed (bOf r (q .j)) (xOf r (q .k)))
     ∷ []
 
-unfoldable pub shiftOf : List ℕ → Instruction → ℕ → CentralEffect
-shiftOf r q m = getD (shifts r q) m leftOut
+unfoldable pub shiftOf : List ℕ → Instruction → ℕ → ℕ → CentralEffect
+shiftOf r q em m = getD (shifts r q em) m leftOut
 
--- "36, 37 sums": Xj + Xk and Xj - Xk
-unfoldable pub sumOf : List ℕ → Instruction → ℕ → CentralEffect
-sumOf r q m =
-    cond (eqb m 6) (SetX (q .i) (sum 60 (xOf r (q .j)) (xOf r (q .k))))
-    (cond (eqb m 7) (SetX (q .i) (difference 60 (xOf r (q .j)) (xOf r (q .k)))) leftOut)
+-- 30 to 37: of Xj and Xk, the floating sum and difference, upper half and lower; "36, 37 sums": Xj + Xk and Xj - Xk
+abbrev pub sums : List ℕ → Instruction → ℕ → List CentralEffect
+sums r q em =
+    floatingSumTo em (q .i) false false (xOf r (q .j)) (xOf r (q .k))
+    ∷ floatingSumTo em (q .i) true false (xOf r (q .j)) (xOf r (q .k))
+    ∷ floatingSumTo em (q .i) false true (xOf r (q .j)) (xOf r (q .k))
+    ∷ floatingSumTo em (q .i) true true (xOf r (q .j)) (xOf r (q .k))
+    ∷ leftOut
+    ∷ leftOut
+    ∷ SetX (q .i) (sum 60 (xOf r (q .j)) (xOf r (q .k)))
+    ∷ SetX (q .i) (difference 60 (xOf r (q .j)) (xOf r (q .k)))
+    ∷ []
+
+unfoldable pub sumOf : List ℕ → Instruction → ℕ → ℕ → CentralEffect
+sumOf r q em m = getD (sums r q em) m leftOut
 
 -- "43 sets the top jk bits of Xi"; "46 passes"; "47 counts the ones of Xk into Xi"
 unfoldable pub maskOrCountOf : List ℕ → Instruction → ℕ → CentralEffect
@@ -91,18 +102,18 @@ unfoldable pub operandOf : List ℕ → Instruction → ℕ → ℕ
 operandOf r q m = getD (operands r q) m 0
 
 -- each row; "50 to 57 set Ai", "60s set Bi, 70s Xi with the sign extended"
-abbrev pub centralRows : List ℕ → Instruction → ℕ → ℕ → List CentralEffect
-centralRows r q m p =
+abbrev pub centralRows : List ℕ → Instruction → ℕ → ℕ → ℕ → List CentralEffect
+centralRows r q em m p =
     branchOf r q m p
     ∷ SetX (q .i) (logical m (xOf r (q .j)) (xOf r (q .k)))
-    ∷ shiftOf r q m
-    ∷ sumOf r q m
+    ∷ shiftOf r q em m
+    ∷ sumOf r q em m
     ∷ maskOrCountOf r q m
     ∷ SetA (q .i) (operandOf r q m)
     ∷ SetB (q .i) (operandOf r q m)
     ∷ SetX (q .i) (signExtend 18 60 (operandOf r q m))
     ∷ []
 
--- the effect of the instruction q of the word at p
-unfoldable pub effectOf : List ℕ → Instruction → ℕ → CentralEffect
-effectOf r q p = getD (centralRows r q (q .code % 8) p) (q .code / 8) leftOut
+-- the effect of the instruction q of the word at p, under the exit mode
+unfoldable pub effectOf : List ℕ → Instruction → ℕ → ℕ → CentralEffect
+effectOf r q em p = getD (centralRows r q em (q .code % 8) p) (q .code / 8) leftOut

@@ -2,6 +2,7 @@
 pub mod arithmetic;
 pub mod branches;
 pub mod effect;
+pub mod floating;
 pub mod increments;
 pub mod listing;
 pub mod rows;

@@ -14,12 +14,12 @@ use super::rows::set_x;
 use super::rows::shift;
 use super::rows::sum;
 
-// The effect of the instruction at the top of v, of the word at p: an arm for each code, with its name in the manual. A code left out does
+// The effect of the instruction at the top of v, of the word at p, under the exit mode em: an arm for each code, with its name in the manual. A code left out does
 // not get here; were it to, its row would stop it.
-pub fn effect_of(r: &[u64; 24], v: u64, p: u64) -> CentralEffect
+pub fn effect_of(r: &[u64; 24], v: u64, em: u64, p: u64) -> CentralEffect
     requires { ⌜ Wide (now r) ⌝ }
     requires { ⌜ p < 131072 ⌝ }
-    ensures { λ e. ⌜ e ≡ effectOf (now (r .entry)) (decodedTop v) p ⌝ }
+    ensures { λ e. ⌜ e ≡ effectOf (now (r .entry)) (decodedTop v) em p ⌝ }
 {
     match v >> 58 {
         0o00 => branch(r, v, p, 0), // STOP
@@ -38,22 +38,22 @@ pub fn effect_of(r: &[u64; 24], v: u64, p: u64) -> CentralEffect
         0o15 => logic(r, v, 5), // LOGICAL PRODUCT of Xj and Xk COMP. to Xi
         0o16 => logic(r, v, 6), // LOGICAL SUM of Xj and Xk COMP. to Xi
         0o17 => logic(r, v, 7), // LOGICAL DIFFERENCE of Xj and Xk COMP. to Xi
-        0o20 => shift(r, v, 0), // SHIFT Xi LEFT jk places
-        0o21 => shift(r, v, 1), // SHIFT Xi RIGHT jk places
-        0o22 => shift(r, v, 2), // SHIFT Xk NOMINALLY LEFT Bj places to Xi
-        0o23 => shift(r, v, 3), // SHIFT Xk NOMINALLY RIGHT Bj places to Xi
-        0o24 => shift(r, v, 4), // NORMALIZE Xk in Xi and Bj: left out
-        0o25 => shift(r, v, 5), // ROUND AND NORMALIZE Xk in Xi and Bj: left out
-        0o26 => shift(r, v, 6), // UNPACK Xk to Xi and Bj
-        0o27 => shift(r, v, 7), // PACK Xi from Xk and Bj
-        0o30 => sum(r, v, 0), // FLOATING SUM of Xj and Xk to Xi: left out
-        0o31 => sum(r, v, 1), // FLOATING DIFFERENCE of Xj and Xk to Xi: left out
-        0o32 => sum(r, v, 2), // FLOATING DP SUM of Xj and Xk to Xi: left out
-        0o33 => sum(r, v, 3), // FLOATING DP DIFFERENCE of Xj and Xk to Xi: left out
-        0o34 => sum(r, v, 4), // ROUND FLOATING SUM of Xj and Xk to Xi: left out
-        0o35 => sum(r, v, 5), // ROUND FLOATING DIFFERENCE of Xj and Xk to Xi: left out
-        0o36 => sum(r, v, 6), // INTEGER SUM of Xj and Xk to Xi
-        0o37 => sum(r, v, 7), // INTEGER DIFFERENCE of Xj and Xk to Xi
+        0o20 => shift(r, v, em, 0), // SHIFT Xi LEFT jk places
+        0o21 => shift(r, v, em, 1), // SHIFT Xi RIGHT jk places
+        0o22 => shift(r, v, em, 2), // SHIFT Xk NOMINALLY LEFT Bj places to Xi
+        0o23 => shift(r, v, em, 3), // SHIFT Xk NOMINALLY RIGHT Bj places to Xi
+        0o24 => shift(r, v, em, 4), // NORMALIZE Xk in Xi and Bj
+        0o25 => shift(r, v, em, 5), // ROUND AND NORMALIZE Xk in Xi and Bj: left out
+        0o26 => shift(r, v, em, 6), // UNPACK Xk to Xi and Bj
+        0o27 => shift(r, v, em, 7), // PACK Xi from Xk and Bj
+        0o30 => sum(r, v, em, 0), // FLOATING SUM of Xj and Xk to Xi
+        0o31 => sum(r, v, em, 1), // FLOATING DIFFERENCE of Xj and Xk to Xi
+        0o32 => sum(r, v, em, 2), // FLOATING DP SUM of Xj and Xk to Xi
+        0o33 => sum(r, v, em, 3), // FLOATING DP DIFFERENCE of Xj and Xk to Xi
+        0o34 => sum(r, v, em, 4), // ROUND FLOATING SUM of Xj and Xk to Xi: left out
+        0o35 => sum(r, v, em, 5), // ROUND FLOATING DIFFERENCE of Xj and Xk to Xi: left out
+        0o36 => sum(r, v, em, 6), // INTEGER SUM of Xj and Xk to Xi
+        0o37 => sum(r, v, em, 7), // INTEGER DIFFERENCE of Xj and Xk to Xi
         0o40 => mask_or_count(r, v, 0), // FLOATING PRODUCT of Xj and Xk to Xi: left out
         0o41 => mask_or_count(r, v, 1), // ROUND FLOATING PRODUCT of Xj and Xk to Xi: left out
         0o42 => mask_or_count(r, v, 2), // FLOATING DP PRODUCT of Xj and Xk to Xi: left out

@@ -41,22 +41,23 @@ pub(crate) fn logic(r: &[u64; 24], v: u64, m: u64) -> CentralEffect
 }
 
 // Codes 20 to 27.
-pub(crate) fn shift(r: &[u64; 24], v: u64, m: u64) -> CentralEffect
+pub(crate) fn shift(r: &[u64; 24], v: u64, em: u64, m: u64) -> CentralEffect
     requires { ⌜ Wide (now r) ⌝ }
     requires { ⌜ m < 8 ⌝ }
-    ensures { λ e. ⌜ e ≡ shiftOf (now (r .entry)) (decodedTop v) m ⌝ }
+    ensures { λ e. ⌜ e ≡ shiftOf (now (r .entry)) (decodedTop v) em m ⌝ }
 {
     let q = decode(v);
-    shifts::effect_of(r, q, m)
+    shifts::effect_of(r, q, em, m)
 }
 
 // Codes 30 to 37.
-pub(crate) fn sum(r: &[u64; 24], v: u64, m: u64) -> CentralEffect
+pub(crate) fn sum(r: &[u64; 24], v: u64, em: u64, m: u64) -> CentralEffect
     requires { ⌜ Wide (now r) ⌝ }
-    ensures { λ e. ⌜ e ≡ sumOf (now (r .entry)) (decodedTop v) m ⌝ }
+    requires { ⌜ m < 8 ⌝ }
+    ensures { λ e. ⌜ e ≡ sumOf (now (r .entry)) (decodedTop v) em m ⌝ }
 {
     let q = decode(v);
-    arithmetic::sum_of(r, q, m)
+    arithmetic::sum_of(r, q, em, m)
 }
 
 // Codes 40 to 47.

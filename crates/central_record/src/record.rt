@@ -5,6 +5,7 @@ ghost use mathlib.Core.Path.{_≡_};
 ghost use Prim.Native.Nat.{_^_};
 ghost use lib.ListN.{length};
 ghost use Rattle.base_lists.specs.Indexed.{allBelow};
+ghost use Rattle.base_outcome.specs.Numbers.{centralStopListed};
 ghost use Rattle.central_record.specs.Record.{emFits, registerWidth, registersFit, recordFits, lengthFits, below, wordsFit, hostVerdict};
 
 // The central processor's record.
@@ -51,6 +52,16 @@ fn registers_fit(registers: [u64; 24]) -> bool
     true
 }
 
+// A stop that a central record may hold, or 0.
+fn stop_listed(stop: u64) -> bool
+    ensures { λ r. ⌜ r ≡ centralStopListed stop ⌝ }
+{
+    if stop <= 5 {
+        return true;
+    }
+    stop == 7 || stop == 8
+}
+
 // Number 5 does not refuse the record. RA and FL are added once both are known to have 18 bits.
 pub fn record_fits(c: Central, words: u64) -> bool
     ensures { λ r. ⌜ r ≡ recordFits words c ⌝ }
@@ -67,7 +78,7 @@ pub fn record_fits(c: Central, words: u64) -> bool
     if words < c.ra + c.fl {
         return false;
     }
-    if 5 < c.stop {
+    if !stop_listed(c.stop) {
         return false;
     }
     let b0 = c.registers[8];

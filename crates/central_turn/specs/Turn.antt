@@ -30,7 +30,7 @@ unfoldable pub ranAt : State → Bounds → ℕ → ℕ → Instruction → Afte
 ranAt s b p place q =
     cond (isFit (q .code) (q .i))
     (cond (ltb 4 (place + parcelsOf (q .code))) (stoppedBy s Because.LastParcel)
-    (applied s b (effectOf (s .registers) q p) (place + parcelsOf (q .code))))
+    (applied s b (effectOf (s .registers) q (b .em) p) (place + parcelsOf (q .code))))
     (stoppedBy s Because.UnfitCode)
 
 -- the instruction at this place of the word w, which stands at p

@@ -38,13 +38,13 @@ pub(crate) fn step(
         ≡ afterByRemaining (ranAt (state (now (r .entry)) (now (f .entry))) b p (placeByRemaining remaining) (decodedTop v)) ⌝ }
 {
     // By the nine bits f m i alone: the code's own arm decodes the rest.
-    let entry = entry_of(t, v >> 58, (v >> 55) & 7);
+    let entry = entry_of(t, v >> 55);
     if remaining < entry {
         if UNFIT <= entry {
             return Step::Stop(CentralStop::UnfitCode);
         }
         return Step::Stop(CentralStop::LastParcel);
     }
-    let e = effect_of(&*r, v, p);
+    let e = effect_of(&*r, v, b.em, p);
     apply(&mut *r, &mut *f, b, e, remaining - entry)
 }

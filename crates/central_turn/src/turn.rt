@@ -78,7 +78,7 @@ pub(crate) fn turn(r: &mut [u64; 24], f: &mut [u64], t: &[u8; 512], b: Bounds, p
     }
 }
 
-// Up to n turns, the first at p; a stop ends them.
+// Up to n turns, the first at p; a stop ends them. They are counted down, so that the loop keeps one number.
 pub fn turns(r: &mut [u64; 24], f: &mut [u64], t: &[u8; 512], b: Bounds, p: u64, n: u64) -> RunEnd
     requires { ⌜ StateKept (b .fl) (state (now r) (now f)) ⌝ }
     requires { ⌜ b .ra + b .fl ≤ 131072 ⌝ }
@@ -87,22 +87,22 @@ pub fn turns(r: &mut [u64; 24], f: &mut [u64], t: &[u8; 512], b: Bounds, p: u64,
     ensures { λ o. ⌜ ran (state (now (r .exit)) (now (f .exit))) o ≡ turnsOf n b p (state (now (r .entry)) (now (f .entry))) ⌝ }
 {
     let mut at = p;
-    let mut made: u64 = 0;
-    while made < n {
+    let mut left: u64 = n;
+    while 0 < left {
         let e = turn(&mut *r, &mut *f, t, b, at);
         at = e.p;
-        made = made + 1;
+        left = left - 1;
         if e.stop != 0 {
             return RunEnd {
                 p: at,
                 stop: e.stop,
-                turns: made,
+                turns: n - left,
             };
         }
     }
     RunEnd {
         p: at,
         stop: 0,
-        turns: made,
+        turns: n,
     }
 }

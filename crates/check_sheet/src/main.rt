@@ -1,5 +1,5 @@
 // Prints the table of length and fitness for the field engineers: a line for each nine-bit beginning f m i, in their order. The expected
-// output, in the file stdout, was written by expected.py beside it, from the lists of document 01.
+// output, in the file stdout, was written by expected.py beside it, from the lists of documents 01 and 02.
 ghost use mathlib.Core.Bool.{true};
 ghost use mathlib.Core.Path.{_≡_};
 ghost use Prim.Native.Nat.{_<_};
@@ -13,13 +13,12 @@ fn digit(n: u64) -> u8 {
 }
 
 // A line, as `010 30 fit`.
-fn print_line(t: &[u8; 512], code: u64, i: u64)
+fn print_line(t: &[u8; 512], n: u64)
     requires { ⌜ followsRule (now t) ≡ true ⌝ }
-    requires { ⌜ code < 64 ⌝ }
-    requires { ⌜ i < 8 ⌝ }
+    requires { ⌜ n < 512 ⌝ }
 {
-    let entry = entry_of(t, code, i);
-    let beginning = [digit(code / 8), digit(code), digit(i), b' '];
+    let entry = entry_of(t, n);
+    let beginning = [digit(n / 64), digit(n / 8), digit(n), b' '];
     io::write_all(1, &beginning);
     io::print_decimal(1, entry % UNFIT);
     if entry < UNFIT {
@@ -32,6 +31,6 @@ fn print_line(t: &[u8; 512], code: u64, i: u64)
 fn main() {
     let t = table();
     for n in 0..512u64 {
-        print_line(&t, n / 8, n % 8);
+        print_line(&t, n);
     }
 }

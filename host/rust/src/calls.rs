@@ -10,7 +10,7 @@ use crate::refusal::Refusal;
 pub struct Ran {
     /// The turns made, the stopping one included.
     pub turns: u64,
-    /// The stop, 1 to 5, or 0 where the turns were used up.
+    /// The stop, 1 to 5, 7 or 8, or 0 where the turns were used up.
     pub stop: u64,
 }
 

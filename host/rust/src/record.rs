@@ -15,7 +15,8 @@ pub struct CentralRecord {
     pub ra: u64,
     /// FL: the length of the field; 18 bits.
     pub fl: u64,
-    /// EM: the exit mode, of the bits 010000, 020000 and 040000.
+    /// EM: the exit mode, of the bits 010000, 020000 and 040000, which bring about the stops 2, 7
+    /// and 8.
     pub em: u64,
     /// A0 to A7, 18 bits each.
     pub a: [u64; 8],
@@ -23,7 +24,7 @@ pub struct CentralRecord {
     pub b: [u64; 8],
     /// X0 to X7, 60 bits each.
     pub x: [u64; 8],
-    /// The stop, 1 to 5, or 0 while running.
+    /// The stop, 1 to 5, 7 or 8, or 0 while running.
     pub stop: u64,
 }
 

@@ -41,6 +41,43 @@ fn a_central_turn() {
     assert_eq!(central, before);
 }
 
+/// X6 = X1 + X2, floating.
+const SUM: u64 = 0o30612460004600046000;
+const INFINITE: u64 = 0o3777 << 48;
+const INDEFINITE: u64 = 0o1777 << 48;
+
+#[test]
+fn a_sum_of_special_operands() {
+    let (infinite, indefinite) = (0o020000, 0o040000);
+    for (em, x1, stop, x6) in [
+        (0, INFINITE, 0, INFINITE),
+        (infinite, INFINITE, 7, 0),
+        (indefinite, INFINITE, 0, INFINITE),
+        (0, INDEFINITE, 0, INDEFINITE),
+        (infinite, INDEFINITE, 0, INDEFINITE),
+        (indefinite, INDEFINITE, 8, 0),
+    ] {
+        let (mut lent, mut central) = (memory(), record());
+        lent[0o20] = SUM;
+        central.em = em;
+        central.x[1] = x1;
+        tozhenab::central_turn(&mut lent, &mut central).unwrap();
+        assert_eq!((central.stop, central.x[6]), (stop, x6), "EM {em:o}");
+    }
+}
+
+#[test]
+fn stops_that_a_record_may_hold() {
+    for stop in 0..=36 {
+        let mut central = record();
+        central.stop = stop;
+        let given = tozhenab::central_turn(&mut memory(), &mut central);
+        let refused = (!matches!(stop, 0..=5 | 7 | 8)).then_some(Refusal::RecordValue);
+        assert_eq!(given.err(), refused, "stop {stop}");
+        assert!(stop == 0 || central.stop == stop);
+    }
+}
+
 #[test]
 fn central_turns() {
     let (mut lent, mut central) = (memory(), record());

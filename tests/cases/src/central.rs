@@ -1,12 +1,16 @@
 //! Central memory, central records, and cases of a central turn and of an exchange.
 
 use crate::case::{Call, Case, Lent};
-use crate::instruction::{edge_word, field_word, word_with};
+use crate::floating::operands;
+use crate::instruction::{edge_word, field_word, word_with, FLOATING};
 use crate::package::{package_of, WORDS};
 use crate::rng::Rng;
 use crate::values::{shift_count, value_18, word_60, word_for_condition};
 use tozhenab::layout::{A, B, CENTRAL_NUMBERS, EM, FL, P, RA, STOP, X};
 use tozhenab::limits::MOST_WORDS;
+
+/// The stops that a record may hold.
+pub const STOPS: [u64; 7] = [1, 2, 3, 4, 5, 7, 8];
 
 /// A length of central memory: mostly small.
 pub fn memory_length(rng: &mut Rng) -> usize {
@@ -98,7 +102,7 @@ pub fn central_record(rng: &mut Rng, length: usize) -> Vec<u64> {
     record[EM] = rng.below(8) << 12;
     fill_registers(rng, &mut record, fl);
     if rng.one_in(16) {
-        record[STOP] = rng.between(1, 5);
+        record[STOP] = rng.pick(&STOPS);
     }
     record
 }
@@ -113,7 +117,12 @@ pub fn central_lent(rng: &mut Rng) -> Lent {
     }
 }
 
-/// A central turn. The word at P mostly begins with any code.
+/// Codes whose rules have many edges, those with the most of them most often.
+const WITH_EDGES: [u64; 15] = [
+    0o22, 0o23, 0o24, 0o30, 0o30, 0o30, 0o31, 0o31, 0o31, 0o32, 0o32, 0o32, 0o33, 0o33, 0o33,
+];
+
+/// A central turn. The word at P mostly begins with any code, or with one of those.
 pub fn turn_case(rng: &mut Rng) -> Case {
     let mut lent = central_lent(rng);
     let (p, ra, fl) = (lent.record[P], lent.record[RA], lent.record[FL]);
@@ -122,8 +131,11 @@ pub fn turn_case(rng: &mut Rng) -> Case {
         match rng.below(16) {
             0 => {}
             1 => *word = edge_word(rng, fl),
-            _ => {
-                let code = rng.below(0o100);
+            choice => {
+                let code = match choice {
+                    2..=7 => rng.pick(&WITH_EDGES),
+                    _ => rng.below(0o100),
+                };
                 *word = word_with(rng, code, fl);
             }
         }
@@ -133,6 +145,7 @@ pub fn turn_case(rng: &mut Rng) -> Case {
                 lent.record[B + 1..B + 8].fill_with(|| shift_count(rng));
                 lent.record[X..X + 8].fill_with(|| word_60(rng));
             }
+            code if FLOATING.contains(&code) => operands::fill(rng, *word, &mut lent.record),
             _ => {}
         }
     }

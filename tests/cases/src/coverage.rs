@@ -13,17 +13,19 @@ use tozhenab::layout::{self, PROCESSORS, PROCESSOR_STOP, STOP};
 mod central_codes;
 mod conditions;
 mod facts;
+mod floating;
 mod nominal_shifts;
 mod peripheral_codes;
 mod table;
 
 use central_codes::CentralCodes;
 use conditions::conditions;
+use floating::FloatingCodes;
 use nominal_shifts::NominalShifts;
 use peripheral_codes::PeripheralCodes;
 
 /// Central stops, then peripheral ones.
-const STOPS: [u64; 11] = [1, 2, 3, 4, 5, 31, 32, 33, 34, 35, 36];
+const STOPS: [u64; 13] = [1, 2, 3, 4, 5, 7, 8, 31, 32, 33, 34, 35, 36];
 
 /// A case and what came of it.
 pub struct Seen<'a> {
@@ -42,6 +44,7 @@ pub struct Coverage {
     stops: [[u64; STOPS.len()]; NAMES.len()],
     central: CentralCodes,
     nominal_shifts: NominalShifts,
+    floating: FloatingCodes,
     peripheral: PeripheralCodes,
     /// In the order of `conditions`.
     conditions: Vec<u64>,
@@ -50,9 +53,9 @@ pub struct Coverage {
 /// The places in `STOPS` that a call can give.
 fn stops_of(call: usize) -> std::ops::Range<usize> {
     match NAMES[call] {
-        "central_turn" | "central_turns" | "run_program" | "schedule" => 0..5,
-        "peripheral_turn" => 5..11,
-        "run" => 0..11,
+        "central_turn" | "central_turns" | "run_program" | "schedule" => 0..7,
+        "peripheral_turn" => 7..13,
+        "run" => 0..13,
         _ => 0..0,
     }
 }
@@ -65,6 +68,7 @@ impl Coverage {
             stops: [[0; STOPS.len()]; NAMES.len()],
             central: CentralCodes::new(),
             nominal_shifts: NominalShifts::new(),
+            floating: FloatingCodes::new(),
             peripheral: PeripheralCodes::new(),
             conditions: conditions().map(|_| 0).collect(),
         }
@@ -81,6 +85,7 @@ impl Coverage {
             self.count_stops(seen);
             self.central.count(seen);
             self.nominal_shifts.count(seen);
+            self.floating.count(seen);
             self.peripheral.count(seen);
         } else if seen.case.faults.iter().any(|&fault| fault > seen.number) {
             self.lowest_first[call] += 1;
@@ -166,6 +171,7 @@ impl Coverage {
         }
         self.central.required(see);
         self.nominal_shifts.required(see);
+        self.floating.required(see);
         self.peripheral.required(see);
     }
 }

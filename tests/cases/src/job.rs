@@ -78,7 +78,7 @@ fn package(rng: &mut Rng, job: &Job) -> [u64; WORDS] {
     record[P] = program_address(rng, fl);
     record[RA] = job.ra as u64;
     record[FL] = fl;
-    record[EM] = rng.pick(&[0, 0, 0o010000, 0o060000, 0o070000]);
+    record[EM] = rng.pick(&[0, 0, 0o010000, 0o020000, 0o040000, 0o060000, 0o070000]);
     fill_registers(rng, &mut record, fl);
     package_of(&record)
 }

@@ -14,6 +14,7 @@ mod central;
 pub mod coverage;
 mod device;
 mod fault;
+mod floating;
 mod generate;
 mod instruction;
 mod job;

@@ -17,6 +17,7 @@ const LANDED: Requests = Requests {
     b: true,
     c: true,
     e: true,
+    f: true,
     j: true,
     ..Requests::none()
 };

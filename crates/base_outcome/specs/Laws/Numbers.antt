@@ -1,6 +1,6 @@
 -- No two refusals have one number, nor do two verdicts, nor two stops of one processor; a record may hold the numbers of its processor's stops, 0,
 -- and no other.
-use mathlib.Core.Bool.{true}
+use mathlib.Core.Bool.{true, cond}
 use mathlib.Core.List.{List, [], _∷_}
 use mathlib.Core.Logic.{_⊎_, inl, inr, ⊎-elim}
 use mathlib.Core.Path.{_≡_, refl, sym, ap, _∙_}
@@ -95,7 +95,8 @@ abbrev centralStops : List CentralStop
 centralStops = Central.Halt ∷ Central.OperandOutside ∷ Central.FetchOutside ∷ Central.UnfitCode ∷ Central.LastParcel ∷ []
 
 abbrev centralStopOf : ℕ → CentralStop
-centralStopOf n = getD centralStops (n - 1) Central.Halt
+centralStopOf n =
+    cond (eqb n 7) Central.InfiniteOperand (cond (eqb n 8) Central.IndefiniteOperand (getD centralStops (n - 1) Central.Halt))
 
 central-stop-again : (s : CentralStop) → centralStopOf (centralStopNumber s) ≡ s
 central-stop-again Central.Halt = refl
@@ -103,6 +104,8 @@ central-stop-again Central.OperandOutside = refl
 central-stop-again Central.FetchOutside = refl
 central-stop-again Central.UnfitCode = refl
 central-stop-again Central.LastParcel = refl
+central-stop-again Central.InfiniteOperand = refl
+central-stop-again Central.IndefiniteOperand = refl
 
 pub central-stops-distinct : (s t : CentralStop) → centralStopNumber s ≡ centralStopNumber t → s ≡ t
 central-stops-distinct = distinct centralStopNumber centralStopOf central-stop-again
@@ -114,13 +117,24 @@ central-stop-listed Central.OperandOutside = refl
 central-stop-listed Central.FetchOutside = refl
 central-stop-listed Central.UnfitCode = refl
 central-stop-listed Central.LastParcel = refl
+central-stop-listed Central.InfiniteOperand = refl
+central-stop-listed Central.IndefiniteOperand = refl
+
+-- by the case that is listed
+abbrev CentralStopOrNone : ℕ → Type 0
+CentralStopOrNone n = (n ≡ 0) ⊎ ((s : CentralStop) × (centralStopNumber s ≡ n))
+
+listed-to-5 : (n : ℕ) → n ≤ 5 → CentralStopOrNone n
+unfolding allBelow
+listed-to-5 zero h = inl refl
+listed-to-5 (suc n) h = inr (centralStopOf (suc n), numbered centralStopNumber centralStopOf 1 5 refl (suc n) (omega arith) (omega arith))
 
 pub central-listed-stop : (n : ℕ) → centralStopListed n ≡ true → (n ≡ 0) ⊎ ((s : CentralStop) × (centralStopNumber s ≡ n))
-unfolding allBelow
-central-listed-stop zero h = inl refl
-central-listed-stop (suc n) h =
-    let most = leb-true (suc n) _ h in
-    inr (centralStopOf (suc n), numbered centralStopNumber centralStopOf 1 5 refl (suc n) (omega arith) (omega (arith, most)))
+central-listed-stop n h =
+    ⊎-elim
+    (λ e. ⊎-elim (λ l. listed-to-5 n (leb-true n 5 l)) (λ l. inr (Central.InfiniteOperand, sym (eqb-true n 7 l))) (one-of _ _ e))
+    (λ e. inr (Central.IndefiniteOperand, sym (eqb-true n 8 e)))
+    (one-of _ _ h)
 
 abbrev peripheralStops : List PeripheralStop
 peripheralStops =

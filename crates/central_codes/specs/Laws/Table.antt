@@ -2,7 +2,7 @@
 use mathlib.Core.Bool.{Bool, true, false, cond}
 use mathlib.Core.List.{List, [], _∷_}
 use mathlib.Core.Path.{_≡_, refl, ap, _∙_}
-use Prim.Native.Nat.{ℕ, zero, suc, _+_, _*_, _/_, _%_, _≤_, _<_}
+use Prim.Native.Nat.{ℕ, zero, suc, _+_, _*_, _≤_, _<_}
 use native.Mathlib.Omega.{arith}
 use borrow.Author.Tests.{eqb-true}
 use lib.Dec.{eqb}
@@ -10,10 +10,7 @@ use lib.ListN.{getD}
 use Rattle.base_logic.specs.Laws.Tests.{both}
 use Rattle.central_codes.specs.Codes.{isFit, parcelsOf}
 use Rattle.central_codes.specs.Laws.Codes.{parcels-few}
-use Rattle.central_codes.specs.Table.{entryOf, followsFrom, followsRule}
-
-abbrev entryAt : ℕ → ℕ
-entryAt n = entryOf (n / 8) (n % 8)
+use Rattle.central_codes.specs.Table.{entryOf, entryAt, followsFrom, followsRule}
 
 entries-from : (t : List ℕ) (first n : ℕ) → followsFrom first t ≡ true → first + n < 0o1000 → getD t n 0 ≡ entryAt (first + n)
 unfolding followsFrom
@@ -26,12 +23,10 @@ entries-from (x ∷ t) first (suc n) e h =
     entries-from t (suc first) n (both (eqb x (entryAt first)) (followsFrom (suc first) t) e .1) (omega arith) ∙ ap entryAt z
 
 -- the rule at each entry
-pub rule-at : (t : List ℕ) (c i : ℕ) → followsRule t ≡ true → c < 64 → i < 8 → getD t (c * 8 + i) 0 ≡ entryOf c i
-rule-at t c i e hc hi =
-    let z : 0 + (c * 8 + i) ≡ c * 8 + i = omega arith in
-    let q : (c * 8 + i) / 8 ≡ c = omega arith in
-    let r : (c * 8 + i) % 8 ≡ i = omega arith in
-    entries-from t 0 (c * 8 + i) e (omega arith) ∙ ap entryAt z ∙ rw (q, r)
+pub rule-at : (t : List ℕ) (n : ℕ) → followsRule t ≡ true → n < 0o1000 → getD t n 0 ≡ entryAt n
+rule-at t n e h =
+    let z : 0 + n ≡ n = omega arith in
+    entries-from t 0 n e (omega arith) ∙ ap entryAt z
 
 -- what an entry says
 module _ (e c i : ℕ) (is : e ≡ entryOf c i) where

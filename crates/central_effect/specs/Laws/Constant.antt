@@ -10,7 +10,7 @@ use Rattle.central_decode.specs.Laws.Shifted.{withConstant}
 use Rattle.central_effect.specs.Effects.{branchOf, shiftOf, sumOf, maskOrCountOf, operandOf, centralRows, leftOut, effectOf}
 use Rattle.central_decode.specs.declared.instruction.Instruction.{Instruction}
 
-module _ (r : List ℕ) (q : Instruction) (n p : ℕ) where
+module _ (r : List ℕ) (q : Instruction) (n em p : ℕ) where
   branch-short : (m : ℕ) → m < 8 → isLong m ≡ false → branchOf r (withConstant q n) m p ≡ branchOf r q m p
   unfolding branchOf isLong
   branch-short zero h e = refl
@@ -39,7 +39,7 @@ module _ (r : List ℕ) (q : Instruction) (n p : ℕ) where
   long-low f (suc (suc (suc m))) a b c e h = omega arith
 
   row-short : (f m : ℕ) → m < 8 → isLong (f * 8 + m) ≡ false
-      → getD (centralRows r (withConstant q n) m p) f leftOut ≡ getD (centralRows r q m p) f leftOut
+      → getD (centralRows r (withConstant q n) em m p) f leftOut ≡ getD (centralRows r q em m p) f leftOut
   unfolding shiftOf sumOf maskOrCountOf isLong
   row-short zero m h e = let z : 0 * 8 + m ≡ m = omega arith in branch-short m h (sym (ap isLong z) ∙ e)
   row-short (suc zero) m h e = refl
@@ -51,7 +51,7 @@ module _ (r : List ℕ) (q : Instruction) (n p : ℕ) where
   row-short (suc (suc (suc (suc (suc (suc (suc zero))))))) m h e = rw (operand-short m (long-low 7 m refl refl refl e))
   row-short (suc (suc (suc (suc (suc (suc (suc (suc f)))))))) m h e = refl
 
-  pub effect-short : isLong (q .code) ≡ false → effectOf r (withConstant q n) p ≡ effectOf r q p
+  pub effect-short : isLong (q .code) ≡ false → effectOf r (withConstant q n) em p ≡ effectOf r q em p
   unfolding effectOf
   effect-short e =
       let d : q .code / 8 * 8 + q .code % 8 ≡ q .code = omega arith in

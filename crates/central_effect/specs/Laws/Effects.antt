@@ -16,13 +16,17 @@ use Rattle.word_shift.specs.Laws.Floating.{coefficient-lt, exponent-lt, packed-
 use Rattle.word_shift.specs.Laws.Rotation.{rotate-lt}
 use Rattle.word_shift.specs.Laws.Nominal.{nominal-lt}
 use Rattle.word_shift.specs.Laws.Shifts.{mask-lt, signed-lt, count-le}
+use Rattle.floating_sum.specs.Laws.Sums.{floating-sum-lt}
+use Rattle.floating_normalize.specs.Laws.Normalized.{normal-word-lt, normal-count-lt}
 use Rattle.central_registers.specs.Registers.{aOf, bOf, xOf}
-use Rattle.central_effect.specs.Effects.{jumpIf, firstBranches, branchOf, unpackTo, shifts, leftOut, shiftOf, sumOf, maskOrCountOf, operands, operandOf, centralRows, effectOf}
+use Rattle.central_effect.specs.Floating.{stopsOnInfinite, stopsOnIndefinite, unlessStopped, normalizeTo, floatingSumTo}
+use Rattle.central_effect.specs.Effects.{jumpIf, firstBranches, branchOf, unpackTo, shifts, leftOut, shiftOf, sums, sumOf, maskOrCountOf, operands, operandOf, centralRows, effectOf}
 use Rattle.central_decode.specs.Shifted.{decodedTop}
 use Rattle.central_decode.specs.Widths.{Fit}
 use Rattle.central_registers.specs.Widths.{Wide}
 use Rattle.central_effect.specs.Sound.{CentralSound}
 use Rattle.central_decode.specs.declared.instruction.Instruction.{Instruction}
+use Rattle.central_effect.specs.declared.effect.CentralEffect.{CentralEffect}
 
 module _ (r : List ℕ) (q : Instruction) (w : Wide r) (f : Fit q) where
   a-lt : (i : ℕ) → i < 8 → aOf r i < 2 ^ 18
@@ -76,28 +80,61 @@ module _ (r : List ℕ) (q : Instruction) (w : Wide r) (f : Fit q) where
   unfolding unpackTo
   unpack-sound i j x hi hj h = ((hi, coefficient-lt x), (hj, exponent-lt x h))
 
-  shift-sound : (m : ℕ) → CentralSound (shiftOf r q m)
+  -- what is sound where no operand stops the code is sound
+  unless-sound : (em x y : ℕ) (e : CentralEffect) → CentralSound e → CentralSound (unlessStopped em x y e)
+  unfolding unlessStopped
+  unless-sound em x y e h =
+      of-cond CentralSound (stopsOnIndefinite em x y) (λ t. tt) (λ t. of-cond CentralSound (stopsOnInfinite em x y) (λ t. tt) (λ t. h))
+
+  normalize-sound : (em i j x : ℕ) → i < 8 → j < 8 → x < 2 ^ 60 → CentralSound (normalizeTo em i j x)
+  unfolding normalizeTo
+  normalize-sound em i j x hi hj h = unless-sound em x x _ ((hi, normal-word-lt x h), (hj, normal-count-lt x))
+
+  floating-sound : (em : ℕ) (subtract lower : Bool) → CentralSound (floatingSumTo em (q .i) subtract lower (xOf r (q .j)) (xOf r (q .k)))
+  unfolding floatingSumTo
+  floating-sound em subtract lower =
+      unless-sound em (xOf r (q .j)) (xOf r (q .k)) _ (f .i, floating-sum-lt subtract lower _ _ (x-lt (q .j)) (x-lt (q .k)))
+
+  shift-sound : (em m : ℕ) → CentralSound (shiftOf r q em m)
   unfolding shiftOf
-  shift-sound m =
+  shift-sound em m =
       let xi = x-lt (q .i) in
       let xk = x-lt (q .k) in
-      of-getD CentralSound (shifts r q) m leftOut (
+      of-getD CentralSound (shifts r q em) m leftOut (
         (f .i, rotate-lt 60 _ _ (lit< tt) xi),
         (
           (f .i, signed-lt 60 _ _ xi),
           (
             (f .i, nominal-lt true _ _ xk),
-            ((f .i, nominal-lt false _ _ xk), (tt, (tt, (unpack-sound _ _ _ (f .i) (f .j) xk, ((f .i, packed-lt _ _), tt))))),
+            (
+              (f .i, nominal-lt false _ _ xk),
+              (
+                normalize-sound em _ _ _ (f .i) (f .j) xk,
+                (tt, (unpack-sound _ _ _ (f .i) (f .j) xk, ((f .i, packed-lt _ _), tt))),
+              ),
+            ),
           ),
         ),
       )
       tt
 
-  sum-sound : (m : ℕ) → CentralSound (sumOf r q m)
+  sum-sound : (em m : ℕ) → CentralSound (sumOf r q em m)
   unfolding sumOf
-  sum-sound m =
-      of-cond CentralSound (eqb m 6) (λ e. (f .i, sum-lt 60 _ _ (x-lt (q .j)) (x-lt (q .k))))
-      (λ e. of-cond CentralSound (eqb m 7) (λ e. (f .i, difference-lt 60 _ _ (x-lt (q .j)))) (λ e. tt))
+  sum-sound em m =
+      of-getD CentralSound (sums r q em) m leftOut (
+        floating-sound em false false,
+        (
+          floating-sound em true false,
+          (
+            floating-sound em false true,
+            (
+              floating-sound em true true,
+              (tt, (tt, ((f .i, sum-lt 60 _ _ (x-lt (q .j)) (x-lt (q .k))), ((f .i, difference-lt 60 _ _ (x-lt (q .j))), tt)))),
+            ),
+          ),
+        ),
+      )
+      tt
 
   mask-or-count-sound : (m : ℕ) → CentralSound (maskOrCountOf r q m)
   unfolding maskOrCountOf
@@ -106,18 +143,18 @@ module _ (r : List ℕ) (q : Instruction) (w : Wide r) (f : Fit q) where
       (λ e. of-cond CentralSound (eqb m 6) (λ e. tt)
       (λ e. of-cond CentralSound (eqb m 7) (λ e. (f .i, omega (arith, count-le 60 _ (x-lt (q .k))))) (λ e. tt)))
 
-  pub effect-sound : (p : ℕ) → p < 131072 → CentralSound (effectOf r q p)
+  pub effect-sound : (em p : ℕ) → p < 131072 → CentralSound (effectOf r q em p)
   unfolding effectOf
-  effect-sound p h =
+  effect-sound em p h =
       let m = q .code % 8 in
-      of-getD CentralSound (centralRows r q m p) (q .code / 8) leftOut (
+      of-getD CentralSound (centralRows r q em m p) (q .code / 8) leftOut (
         branch-sound m p h,
         (
           (f .i, logical-lt m _ _ (x-lt (q .j)) (x-lt (q .k))),
           (
-            shift-sound m,
+            shift-sound em m,
             (
-              sum-sound m,
+              sum-sound em m,
               (
                 mask-or-count-sound m,
                 (
@@ -132,11 +169,12 @@ module _ (r : List ℕ) (q : Instruction) (w : Wide r) (f : Fit q) where
       tt
 
 -- the effect of a code by its number, which picks the row and the entry
-effect-by-code : (r : List ℕ) (q : Instruction) (p c : ℕ) → q .code ≡ c → effectOf r q p ≡ getD (centralRows r q (c % 8) p) (c / 8) leftOut
+effect-by-code : (r : List ℕ) (q : Instruction) (em p c : ℕ) → q .code ≡ c
+    → effectOf r q em p ≡ getD (centralRows r q em (c % 8) p) (c / 8) leftOut
 unfolding effectOf
-effect-by-code r q p c e = rw e
+effect-by-code r q em p c e = rw e
 
-pub effect-at-top : (r : List ℕ) (v p c : ℕ) → v / 2 ^ 58 ≡ c
-    → effectOf r (decodedTop v) p ≡ getD (centralRows r (decodedTop v) (c % 8) p) (c / 8) leftOut
+pub effect-at-top : (r : List ℕ) (v em p c : ℕ) → v / 2 ^ 58 ≡ c
+    → effectOf r (decodedTop v) em p ≡ getD (centralRows r (decodedTop v) em (c % 8) p) (c / 8) leftOut
 unfolding decodedTop
-effect-at-top r v p c e = effect-by-code r (decodedTop v) p c e
+effect-at-top r v em p c e = effect-by-code r (decodedTop v) em p c e

@@ -59,7 +59,7 @@ module _ (ra ra′ fl em : ℕ) where
   step-anywhere : (s : State) (p w place : ℕ) → stepOf s (bounds ra fl em) p w place ≡ stepOf s (bounds ra′ fl em) p w place
   unfolding ranAt
   step-anywhere s p w place =
-      rw (apply-anywhere s (effectOf (s .registers) (decoded w place) p) (place + parcelsOf (decoded w place .code)))
+      rw (apply-anywhere s (effectOf (s .registers) (decoded w place) em p) (place + parcelsOf (decoded w place .code)))
 
   go-on-anywhere : (p : ℕ) (rest rest′ : State → ℕ → Turn) → ((s : State) (n : ℕ) → rest s n ≡ rest′ s n) → (a a′ : After) → a ≡ a′
       → goOn p rest (a .state) (a .step) ≡ goOn p rest′ (a′ .state) (a′ .step)

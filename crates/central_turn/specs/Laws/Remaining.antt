@@ -11,7 +11,7 @@ use Rattle.word_arithmetic.specs.Bits.{bits}
 use Rattle.base_logic.specs.Laws.Choice.{le-or-lt}
 use Rattle.base_outcome.specs.declared.stop.CentralStop.the-variants as Because
 use Rattle.central_codes.specs.Codes.{isLong, parcelsOf}
-use Rattle.central_codes.specs.Table.{entryOf}
+use Rattle.central_codes.specs.Table.{entryOf, entryAt}
 use Rattle.central_codes.specs.Laws.Table.{entry-unfit, entry-fit}
 use Rattle.central_decode.specs.Instruction.{decoded}
 use Rattle.central_decode.specs.Shifted.{shiftedTo, decodedTop}
@@ -67,9 +67,11 @@ apply-remaining s b (SetX _ _) n = refl
 apply-remaining s b (SetXB _ _ _ _) n = refl
 
 -- the entry of the instruction at the top of v
-pub entry-at-top : (e v i : ℕ) → e ≡ entryOf (v / 2 ^ 58) i → i ≡ bits v 55 3 → e ≡ entryOf (decodedTop v .code) (decodedTop v .i)
+pub entry-at-top : (e v : ℕ) → e ≡ entryAt (v / 2 ^ 55) → e ≡ entryOf (decodedTop v .code) (decodedTop v .i)
 unfolding decodedTop
-entry-at-top e v i is d = is ∙ ap (entryOf (v / 2 ^ 58)) d
+entry-at-top e v is =
+    let c : v / 2 ^ 55 / 8 ≡ v / 2 ^ 58 = omega arith in
+    is ∙ ap (λ (code : ℕ). entryOf code (v / 2 ^ 55 % 8)) c
 
 -- a step, by the entry of its code
 module _ (s : State) (b : Bounds) (p remaining e : ℕ) (q : Instruction)
@@ -85,7 +87,7 @@ module _ (s : State) (b : Bounds) (p remaining e : ℕ) (q : Instruction)
       let d : 4 < placeByRemaining remaining + parcelsOf (q .code) = omega (arith, f .1) in
       rw (f .0, lt-ltb 4 (placeByRemaining remaining + parcelsOf (q .code)) d)
 
-  pub ran-whole : (f : CentralEffect) (a : After) → e ≤ remaining → f ≡ effectOf (s .registers) q p → a ≡ applied s b f (remaining - e)
+  pub ran-whole : (f : CentralEffect) (a : After) → e ≤ remaining → f ≡ effectOf (s .registers) q (b .em) p → a ≡ applied s b f (remaining - e)
       → a ≡ afterByRemaining (ranAt s b p (placeByRemaining remaining) q)
   unfolding ranAt
   ran-whole f a c ef ea =
@@ -102,7 +104,7 @@ ran-last s b p n q = by-length (isLong (q .code)) refl
   where
     by-length : (t : Bool) → isLong (q .code) ≡ t → ranAt s b p 3 (withConstant q n) ≡ ranAt s b p 3 q
     by-length true e = rw e
-    by-length false e = rw (effect-short (s .registers) q n p e)
+    by-length false e = rw (effect-short (s .registers) q n (b .em) p e)
 
 -- the instruction at the top is the one at its place
 pub step-at-top : (s : State) (b : Bounds) (p w place : ℕ) → place < 4

@@ -1,7 +1,7 @@
 -- A run as a loop over the turns, what it keeps, and runs one after the other.
 use mathlib.Core.Bool.{Bool, true, false, cond}
 use mathlib.Core.Path.{_≡_, refl, sym, ap, subst, _∙_}
-use Prim.Native.Nat.{ℕ, zero, suc, _+_, _^_, _≤_, _<_}
+use Prim.Native.Nat.{ℕ, zero, suc, _+_, _-_, _^_, _≤_, _<_}
 use native.Mathlib.Nat.{zero-add}
 use native.Mathlib.Omega.{arith}
 use borrow.Author.Tests.{eq-eqb, ne-eqb, eqb-true, eqb-false}
@@ -35,51 +35,60 @@ module _ (b : Bounds) (p n : ℕ) (s : State) (t : Turn) (e : t ≡ turnOf b p s
   unfolding turnsOf
   first-goes-on h = rw (← e, eq-eqb (t .end .stop) 0 h)
 
--- the state of the loop: with i turns made, what is left to run gives what the whole run gives
-pub record RunGoing (b : Bounds) (n p₀ : ℕ) (s₀ s : State) (p i : ℕ) : Type 0 where
+-- the state of the loop: with these turns left, what is to run gives what the whole run gives
+pub record RunGoing (b : Bounds) (n p₀ : ℕ) (s₀ s : State) (p left : ℕ) : Type 0 where
   pub kept : StateKept (b .fl) s
   pub short : p < 2 ^ 18
-  pub left : ℕ
-  pub total : i + left ≡ n
-  pub is : turnsBefore i (turnsOf left b p s) ≡ turnsOf n b p₀ s₀
+  pub most : left ≤ n
+  pub is : turnsBefore (n - left) (turnsOf left b p s) ≡ turnsOf n b p₀ s₀
 
-pub run-going-start : (b : Bounds) (n p : ℕ) (s : State) → p < 2 ^ 18 → StateKept (b .fl) s → RunGoing b n p s s p 0
+pub run-going-start : (b : Bounds) (n p : ℕ) (s : State) → p < 2 ^ 18 → StateKept (b .fl) s → RunGoing b n p s s p n
 run-going-start b n p s h k =
-    record { kept = k; short = h; left = n; total = omega arith; is = no-turns-before (turnsOf n b p s) }
+    let z : n - n ≡ 0 = omega arith in
+    record { kept = k; short = h; most = omega arith; is = ap (λ (i : ℕ). turnsBefore i (turnsOf n b p s)) z ∙ no-turns-before (turnsOf n b p s) }
 
 none-left : (b : Bounds) (p i left : ℕ) (s : State) → left ≡ 0 → ran s (runEnd p 0 i) ≡ turnsBefore i (turnsOf left b p s)
 unfolding turnsOf
 none-left b p i zero s e = let h : i ≡ i + 0 = omega arith in ap (λ (t : ℕ). ran s (runEnd p 0 t)) h
 none-left b p i (suc left) s e = absurd (omega arith)
 
-module _ (b : Bounds) (room : b .fl ≤ 131072) (n p₀ : ℕ) (s₀ s : State) (p i : ℕ) (g : RunGoing b n p₀ s₀ s p i) where
-  pub run-going-end : n ≤ i → ran s (runEnd p 0 i) ≡ turnsOf n b p₀ s₀
-  run-going-end h = none-left b p i (g .left) s (omega (arith, g .total)) ∙ g .is
+module _ (b : Bounds) (room : b .fl ≤ 131072) (n p₀ : ℕ) (s₀ s : State) (p left : ℕ) (g : RunGoing b n p₀ s₀ s p left) where
+  pub run-going-end : left ≤ 0 → ran s (runEnd p 0 n) ≡ turnsOf n b p₀ s₀
+  run-going-end h =
+      let z : n ≡ n - left = omega arith in
+      ap (λ (i : ℕ). ran s (runEnd p 0 i)) z ∙ none-left b p (n - left) left s (omega arith) ∙ g .is
 
-  module _ (h : i < n) (t : Turn) (e : t ≡ turnOf b p s) where
-    stops : (left : ℕ) → i + left ≡ n → turnsBefore i (turnsOf left b p s) ≡ turnsOf n b p₀ s₀ → (t .end .stop ≡ 0 → ⊥)
-        → ran (t .state) (runEnd (t .end .p) (t .end .stop) (i + 1)) ≡ turnsOf n b p₀ s₀
-    stops zero l a o = absurd (omega arith)
-    stops (suc left) l a o = ap (turnsBefore i) (first-stops b p left s t e o) ∙ a
+  module _ (h : 0 < left) (t : Turn) (e : t ≡ turnOf b p s) where
+    stops : (k : ℕ) → 0 < k → k ≤ n → turnsBefore (n - k) (turnsOf k b p s) ≡ turnsOf n b p₀ s₀ → (t .end .stop ≡ 0 → ⊥)
+        → ran (t .state) (runEnd (t .end .p) (t .end .stop) (n - (k - 1))) ≡ turnsOf n b p₀ s₀
+    stops zero z l a o = absurd (omega arith)
+    stops (suc k) z l a o =
+        let d : n - (suc k - 1) ≡ n - suc k + 1 = omega arith in
+        ap (λ (i : ℕ). ran (t .state) (runEnd (t .end .p) (t .end .stop) i)) d ∙ ap (turnsBefore (n - suc k)) (first-stops b p k s t e o) ∙ a
 
-    pub run-going-stop : (t .end .stop ≡ 0 → ⊥) → ran (t .state) (runEnd (t .end .p) (t .end .stop) (i + 1)) ≡ turnsOf n b p₀ s₀
-    run-going-stop o = stops (g .left) (g .total) (g .is) o
+    pub run-going-stop : (t .end .stop ≡ 0 → ⊥)
+        → ran (t .state) (runEnd (t .end .p) (t .end .stop) (n - (left - 1))) ≡ turnsOf n b p₀ s₀
+    run-going-stop o = stops left h (g .most) (g .is) o
 
-    goes-on : (left : ℕ) → i + left ≡ n → turnsBefore i (turnsOf left b p s) ≡ turnsOf n b p₀ s₀ → t .end .stop ≡ 0
-        → RunGoing b n p₀ s₀ (t .state) (t .end .p) (i + 1)
-    goes-on zero l a o = absurd (omega arith)
-    goes-on (suc left) l a o =
+    goes-on : (k : ℕ) → 0 < k → k ≤ n → turnsBefore (n - k) (turnsOf k b p s) ≡ turnsOf n b p₀ s₀ → t .end .stop ≡ 0
+        → RunGoing b n p₀ s₀ (t .state) (t .end .p) (k - 1)
+    goes-on zero z l a o = absurd (omega arith)
+    goes-on (suc k) z l a o =
         let after = subst (TurnKept (b .fl)) (sym e) (turn-left (b .fl) b room p s (g .short) (g .kept)) in
-        record {
+        let z : suc k - 1 ≡ k = omega arith in
+        let d : n - k ≡ n - suc k + 1 = omega arith in
+        subst (RunGoing b n p₀ s₀ (t .state) (t .end .p)) (sym z)
+        (record {
           kept = after .kept;
           short = after .p;
-          left = left;
-          total = omega arith;
-          is = sym (before-before i 1 _) ∙ ap (turnsBefore i) (first-goes-on b p left s t e o) ∙ a;
-        }
+          most = omega arith;
+          is =
+              ap (λ (i : ℕ). turnsBefore i (turnsOf k b (t .end .p) (t .state))) d
+              ∙ sym (before-before (n - suc k) 1 _) ∙ ap (turnsBefore (n - suc k)) (first-goes-on b p k s t e o) ∙ a;
+        })
 
-    pub run-going-on : t .end .stop ≡ 0 → RunGoing b n p₀ s₀ (t .state) (t .end .p) (i + 1)
-    run-going-on o = goes-on (g .left) (g .total) (g .is) o
+    pub run-going-on : t .end .stop ≡ 0 → RunGoing b n p₀ s₀ (t .state) (t .end .p) (left - 1)
+    run-going-on o = goes-on left h (g .most) (g .is) o
 
 -- what a run leaves
 pub record RunKept (n : ℕ) (o : Run) : Type 0 where

@@ -33,7 +33,7 @@ unfolding ranAt
 step-keeps n s b p w place h k =
     of-cond (KeptAfter n) (isFit (decoded w place .code) (decoded w place .i))
     (λ e. of-cond (KeptAfter n) (ltb 4 (place + parcelsOf (decoded w place .code))) (λ e. k)
-    (λ e. apply-keeps n s b _ _ (effect-sound (s .registers) (decoded w place) (k .wide) (decoded-fits w place) p h) k))
+    (λ e. apply-keeps n s b _ _ (effect-sound (s .registers) (decoded w place) (k .wide) (decoded-fits w place) (b .em) p h) k))
     (λ e. k)
 
 -- a step either goes on past its instruction, or to a target of 18 bits, or stops
@@ -93,8 +93,8 @@ step-reaches n s b p w place h l k =
     of-cond P (isFit (q .code) (q .i))
     (λ e. of-cond P (ltb 4 (place + parcelsOf (q .code))) (λ e. tt)
     (λ e.
-    further place (place + parcelsOf (q .code)) (applied s b (effectOf (s .registers) q p) (place + parcelsOf (q .code)) .step)
+    further place (place + parcelsOf (q .code)) (applied s b (effectOf (s .registers) q (b .em) p) (place + parcelsOf (q .code)) .step)
     (omega (arith, parcels-few (q .code) _ refl))
     (ltb-false 4 (place + parcelsOf (q .code)) e)
-    (apply-reaches s b (effectOf (s .registers) q p) _ (effect-sound (s .registers) q (k .wide) (decoded-fits w place) p h) l)))
+    (apply-reaches s b (effectOf (s .registers) q (b .em) p) _ (effect-sound (s .registers) q (k .wide) (decoded-fits w place) (b .em) p h) l)))
     (λ e. tt)

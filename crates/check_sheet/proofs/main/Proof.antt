@@ -15,7 +15,7 @@ print-line-requires : tie.Need-print-line-requires Inv-loop μ-loop
 print-line-requires c κs =
     let loop-test = c .before .loop-test in
     let table = c .before .before .before .table in
-    (table .ensures, (omega (arith, loop-test .taken), omega arith))
+    (table .ensures, omega (arith, loop-test .taken))
 
 pub main-spec : {M : Type 1} → statement M
 main-spec =

@@ -1,7 +1,7 @@
 //! Counts of the central codes that ran.
 
 use super::Seen;
-use crate::instruction::{is_left_out, is_long};
+use crate::instruction::{is_left_out, is_long, FLOATING};
 use std::fmt;
 use tozhenab::layout::{EM, P};
 
@@ -53,7 +53,8 @@ impl CentralCodes {
                 return; // stop 5: the code does not run
             }
             self.codes[code as usize] += 1;
-            let operand = (0o50..0o60).contains(&code) && em & 0o010000 != 0;
+            let operand = (0o50..0o60).contains(&code) && em & 0o010000 != 0
+                || FLOATING.contains(&code) && em & 0o060000 != 0;
             if code <= 0o07 || is_left_out(code) || operand {
                 return;
             }

@@ -16,6 +16,7 @@ impl fmt::Display for Coverage {
         self.write_stops(f)?;
         self.central.fmt(f)?;
         self.nominal_shifts.fmt(f)?;
+        self.floating.fmt(f)?;
         self.peripheral.fmt(f)?;
         writeln!(f, "\nother conditions")?;
         for (count, (name, _)) in self.conditions.iter().zip(conditions()) {
@@ -65,7 +66,7 @@ impl Coverage {
 }
 
 /// A count, or a blank where there can be none.
-fn write_count(f: &mut fmt::Formatter, can: bool, count: u64) -> fmt::Result {
+pub fn write_count(f: &mut fmt::Formatter, can: bool, count: u64) -> fmt::Result {
     if can || count > 0 {
         write!(f, "{count:>7}")
     } else {

@@ -66,7 +66,7 @@ fn spoil_central(rng: &mut Rng, record: &mut [u64], words: u64) {
         1 => record[A + n] = over(rng, ONES_18),
         2 => record[B + n] = over(rng, ONES_18),
         3 => record[X + n] = over(rng, ONES_60),
-        4 => record[STOP] = rng.pick(&[6, 30, 31, 36, 256, 257, 1 << 32, u64::MAX]),
+        4 => record[STOP] = rng.pick(&[6, 9, 30, 31, 36, 256, 257, 1 << 32, u64::MAX]),
         5 => record[EM] |= rng.pick(&[1, 0o4000, 0o100000, 0o400000, 1 << 18, 1 << 40]),
         6 => record[B] = rng.pick(&[1, 0o400000, 0o777777]),
         _ => {

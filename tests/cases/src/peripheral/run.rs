@@ -4,6 +4,7 @@ use super::begin::{write_ended_wait, write_exchange};
 use super::write::{central_address, write_instruction};
 use super::{machine_lent, processor_count, WORDS};
 use crate::case::{Call, Case, Lent};
+use crate::central::STOPS;
 use crate::instruction::fill_loop;
 use crate::rng::Rng;
 use crate::values::result_slice;
@@ -54,7 +55,7 @@ fn write_central_loop(rng: &mut Rng, lent: &mut Lent) {
 
 /// Stops every processor, or all but one.
 fn stop_most(rng: &mut Rng, record: &mut [u64]) {
-    record[STOP] = rng.between(1, 5);
+    record[STOP] = rng.pick(&STOPS);
     for n in 0..PROCESSORS {
         record[layout::processor(n) + PROCESSOR_STOP] = rng.between(31, 36);
     }

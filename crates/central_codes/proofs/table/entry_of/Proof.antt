@@ -6,11 +6,7 @@ use Rattle.central_codes.proofs.table.entry_of.Statement.{statement}
 use Rattle.central_codes.proofs.table.entry_of.Tie as tie
 
 returns : tie.Need-returns
-returns c =
-    let pre = c .before .before .pre in
-    c .widened .ensures ∙ rule-at _ _ _ (pre .0) (pre .1 .0) (pre .1 .1)
+returns c = (c .widened .ensures) ∙ rule-at _ _ (c .before .before .pre .0) (c .before .before .pre .1)
 
 pub entry-of-spec : {M : Type 1} → statement M
-entry-of-spec =
-    tie.close
-    (tie.spec (λ c. search needs) (λ c. search needs) (λ c. search needs) (λ c κs. search needs) returns)
+entry-of-spec = tie.close (tie.spec (λ c. search needs) (λ c κs. search needs) returns)

@@ -23,11 +23,11 @@ returns-4 c = rw (c .before .match .keys4, c .is-negative602 .ensures)
 
 returns-5 : tie.Need-returns-5
 unfolding wordCondition
-returns-5 c = rw (c .before .match .keys5, c .is-out-of-range .ensures)
+returns-5 c = rw (c .before .match .keys5, c .is-infinite .ensures)
 
 returns-6 : tie.Need-returns-6
 unfolding wordCondition
-returns-6 c = rw (c .before .match .keys6, c .is-out-of-range2 .ensures)
+returns-6 c = rw (c .before .match .keys6, c .is-infinite2 .ensures)
 
 returns-7 : tie.Need-returns-7
 unfolding wordCondition

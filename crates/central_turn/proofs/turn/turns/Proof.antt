@@ -1,6 +1,5 @@
 -- `central_turn::turn::turns` meets its contract.
 use mathlib.Core.Path.{_∙_, sym}
-use Prim.Native.Nat.{_-_}
 use native.Mathlib.Omega.{arith}
 use Rattle.central_apply.specs.State.{state}
 use Rattle.central_turn.specs.Laws.Run.{RunGoing, run-going-start, run-going-on, run-going-stop, run-going-end}
@@ -8,10 +7,10 @@ use Rattle.central_turn.proofs.turn.turns.Statement.{statement}
 use Rattle.central_turn.proofs.turn.turns.Tie as tie
 
 abbrev Inv-loop : tie.InvT-loop
-Inv-loop r₀ f₀ t b p n at₀ made₀ r f at made = RunGoing b n p (state r₀ f₀) (state r f) at made
+Inv-loop r₀ f₀ t b p n at₀ left₀ r f at left = RunGoing b n p (state r₀ f₀) (state r f) at left
 
 abbrev μ-loop : tie.MeasureT-loop
-μ-loop r₀ f₀ t b p n at₀ made₀ r f at made = n - made
+μ-loop r₀ f₀ t b p n at₀ left₀ r f at left = left
 
 loop-holds : tie.Need-loop-holds Inv-loop μ-loop
 loop-holds c = run-going-start _ _ _ _ (c .before .pre .1 .1 .1) (c .before .pre .0)
@@ -22,8 +21,8 @@ turn-requires c κs =
     let loop = c .before .before .before .loop in
     (loop .inv .kept, (pre .1 .0, pre .1 .1 .0))
 
-add-made : tie.Need-add-made Inv-loop μ-loop
-add-made c = omega (arith, c .before .before .before .before .before .loop-test .taken)
+sub-made : tie.Need-sub-t14 Inv-loop μ-loop
+sub-made c = omega (arith, c .before .before .before .before .before .before .before .before .loop .inv .most)
 
 same-length : tie.Need-same-length Inv-loop μ-loop
 same-length c =
@@ -63,5 +62,5 @@ returns-2 c =
 pub turns-spec : {M : Type 1} → statement M
 turns-spec =
     tie.close
-    (tie.spec Inv-loop μ-loop loop-holds turn-requires add-made same-length returns (λ c. omega arith) loop-again
-    same-length-2 returns-2)
+    (tie.spec Inv-loop μ-loop loop-holds turn-requires (λ c. omega arith) sub-made same-length returns (λ c. omega arith)
+    loop-again same-length-2 returns-2)

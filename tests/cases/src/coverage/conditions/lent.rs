@@ -15,6 +15,11 @@ pub const CONDITIONS: &[Condition] = &[
     ("5: a value of more than 32 bits", |s| {
         s.number == 5 && s.is_very_wide()
     }),
+    ("5: a central stop of 6", |s| s.refused_stop() == Some(6)),
+    ("5: a central stop of 9", |s| s.refused_stop() == Some(9)),
+    ("5: a central stop above 9", |s| s.refused_stop() > Some(9)),
+    ("a record with stop 7, carried out", |s| s.holds_stop(7)),
+    ("a record with stop 8, carried out", |s| s.holds_stop(8)),
     ("6: a short result", |s| {
         s.number == 6 && s.has_short_result()
     }),

@@ -27,6 +27,24 @@ impl Seen<'_> {
         wide && !self.has_another_length()
     }
 
+    /// The central stop of the record, where the call takes one.
+    fn lent_stop(&self) -> Option<u64> {
+        let numbers = self.case.lent.record.len();
+        (numbers > STOP && !self.has_another_length()).then(|| self.case.lent.record[STOP])
+    }
+
+    /// The central stop of a record that is refused, where no other refusal is due. If no record may
+    /// hold it, nothing else of the record is at fault.
+    pub fn refused_stop(&self) -> Option<u64> {
+        let alone = self.number == 5 && self.case.faults == [5];
+        self.lent_stop().filter(|_| alone)
+    }
+
+    /// A call that was carried out on a record with this stop.
+    pub fn holds_stop(&self, stop: u64) -> bool {
+        self.number == 0 && self.lent_stop() == Some(stop)
+    }
+
     pub fn has_short_result(&self) -> bool {
         self.case.lent.result.len() < self.case.call.result_length()
     }

@@ -1,0 +1,3 @@
+-- Consequences of the definitions.
+pub mod Places
+pub mod Normalized

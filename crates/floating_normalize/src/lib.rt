@@ -1,0 +1,2 @@
+// Normalize, code 24.
+pub mod normalize;

@@ -1,0 +1,3 @@
+-- Consequences of the definitions.
+pub mod Special
+pub mod Number
