@@ -1,2 +1,4 @@
 // What every layer says of lists and of parts of memory.
+#![tactic(auto)]
+
 pub mod overlap;

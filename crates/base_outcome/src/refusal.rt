@@ -3,7 +3,7 @@ ghost use Rattle.std.specs.Prelude.{◌≡◌};
 ghost use Rattle.base_outcome.specs.Numbers.{refusal_number, verdict_number};
 
 // Why a call is not carried out.
-#[derive(Drop)]
+#[derive(Clone, Copy)]
 pub enum Refusal {
     // The host's: what it lends.
     CentralLength,
@@ -54,7 +54,7 @@ impl Refusal {
 }
 
 // What becomes of a call.
-#[derive(Drop)]
+#[derive(Clone, Copy)]
 pub enum Verdict {
     Accepted,
     Refused(Refusal),

@@ -3,7 +3,7 @@ ghost use Rattle.std.specs.Prelude.{◌≡◌};
 ghost use Rattle.base_outcome.specs.Numbers.{central_stop_number, peripheral_stop_number};
 
 // Why the central processor stopped.
-#[derive(Drop)]
+#[derive(Clone, Copy)]
 pub enum CentralStop {
     // Code 00.
     Halt,
@@ -38,7 +38,7 @@ impl CentralStop {
 }
 
 // Why a peripheral processor stopped.
-#[derive(Drop)]
+#[derive(Clone, Copy)]
 pub enum PeripheralStop {
     // The central address of 60 or 62 at or past the end.
     CentralAddress,

@@ -12,7 +12,7 @@ use central_field::address::{Bounds, Place, Relative, convert, index};
 use central_registers::registers::{set_b, set_x};
 
 // What follows an instruction.
-#[derive(Drop)]
+#[derive(Clone, Copy)]
 pub enum Step {
     // The word goes on: the number that `apply` was given.
     Next(u64),

@@ -1,2 +1,4 @@
 // What an effect does to the registers and the field, both lent.
+#![tactic(auto)]
+
 pub mod apply;

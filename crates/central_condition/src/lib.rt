@@ -1,2 +1,4 @@
 // The conditions of the central processor's branches.
+#![tactic(auto)]
+
 pub mod conditions;

@@ -2,7 +2,7 @@
 ghost use Rattle.central_decode.specs.Shifted.{decoded_top};
 ghost use Rattle.central_decode.specs.Widths.{Read};
 
-#[derive(Drop)]
+#[derive(Clone, Copy)]
 pub struct Instruction {
     // The digits f and m.
     pub code: u64,

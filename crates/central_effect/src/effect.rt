@@ -4,7 +4,7 @@ ghost use Rattle.central_effect.specs.Effects.{jump_if};
 
 use base_outcome::stop::CentralStop;
 
-#[derive(Drop)]
+#[derive(Clone, Copy)]
 pub enum CentralEffect {
     Pass,
     Stop(CentralStop),

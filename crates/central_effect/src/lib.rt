@@ -1,4 +1,6 @@
 // The effect of every code of the central processor, worked out from the registers without writing; no memory.
+#![tactic(auto)]
+
 pub mod arithmetic;
 pub mod branches;
 pub mod effect;

@@ -3,7 +3,7 @@ ghost use Rattle.std.specs.Prelude.{◌≡◌, ◌+◌, ◌≤◌};
 ghost use Rattle.central_field.specs.Address.{place_of, Within, Index};
 
 // The field's first word RA and its length FL, and the exit mode EM.
-#[derive(Drop)]
+#[derive(Clone, Copy)]
 pub struct Bounds {
     pub ra: u64,
     pub fl: u64,
@@ -11,14 +11,14 @@ pub struct Bounds {
 }
 
 // An address as a program has it: all of its 18 bits.
-#[derive(Drop)]
+#[derive(Clone, Copy)]
 pub struct Relative(pub u64);
 
 // An address in central memory.
-#[derive(Drop)]
+#[derive(Clone, Copy)]
 pub struct Absolute(pub u64);
 
-#[derive(Drop)]
+#[derive(Clone, Copy)]
 pub enum Place {
     Inside(Absolute),
     Outside,

@@ -7,7 +7,7 @@ ghost use Rattle.central_record.specs.Record.{em_fits, register_width, registers
 use base_outcome::refusal::{Refusal, Verdict};
 
 // The central processor's record.
-#[derive(Drop)]
+#[derive(Clone, Copy)]
 pub struct Central {
     pub p: u64,
     pub ra: u64,

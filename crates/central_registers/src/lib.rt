@@ -1,2 +1,4 @@
 // The central processor's registers.
+#![tactic(auto)]
+
 pub mod registers;

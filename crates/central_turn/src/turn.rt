@@ -11,14 +11,14 @@ use central_apply::apply::Step;
 use central_field::address::{Bounds, Place, Relative, convert, index};
 
 // P after a turn, and the number of the stop, or 0.
-#[derive(Drop)]
+#[derive(Clone, Copy)]
 pub struct TurnEnd {
     pub p: u64,
     pub stop: u64,
 }
 
 // The same after several turns, and how many were made, the stopping one included.
-#[derive(Drop)]
+#[derive(Clone, Copy)]
 pub struct RunEnd {
     pub p: u64,
     pub stop: u64,

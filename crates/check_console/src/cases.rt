@@ -6,7 +6,7 @@ use console_reader::reader;
 use console_reader::reader::{Reader, feed};
 
 // One input. Held back are a line feed, and the bytes of a line that may end the input.
-#[derive(Drop)]
+#[derive(Clone, Copy)]
 pub(crate) struct Case {
     pub reader: Reader,
     // A line feed that was not fed yet.

@@ -1,5 +1,7 @@
 // Answers many console inputs in one stream. Each input is followed by a line `=====`, and so is each answer. The line
 // `====-` ends an input whose last line has no line feed: the line feed before it is not part of the input.
+#![tactic(auto)]
+
 mod answer;
 mod cases;
 

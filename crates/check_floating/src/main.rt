@@ -1,6 +1,8 @@
 // Prints the results of the floating sums and of normalize, and the tests for infinite and indefinite words, on edge operands, in octal.
 // The expected output, in the file stdout, was written by expected.py beside it, which goes by exact fractions and shares nothing with
 // this code.
+#![tactic(auto)]
+
 mod edges;
 mod results;
 mod show;

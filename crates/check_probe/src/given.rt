@@ -1,5 +1,5 @@
 // What a call gives beside the memories, the record and the stints.
-#[derive(Drop)]
+#[derive(Clone, Copy)]
 pub(crate) struct Given {
     // The number of the refusal, or 0.
     pub refusal: u64,
@@ -10,7 +10,7 @@ pub(crate) struct Given {
     pub mark: u64,
 }
 
-#[derive(Drop)]
+#[derive(Clone, Copy)]
 pub(crate) enum Outcome {
     Answer(Given),
     // No call that this program makes.

@@ -47,7 +47,7 @@ pub(crate) const END: usize = TURNS + STINT_ROOM;
 pub(crate) type Numbers = [u64; END];
 
 // What the next number of a line is.
-#[derive(Drop)]
+#[derive(Clone, Copy)]
 pub(crate) enum Next {
     // The number at this place.
     Number(usize),
@@ -61,7 +61,7 @@ pub(crate) enum Next {
 }
 
 // What comes next, and how many pairs or numbers of its list are left.
-#[derive(Drop)]
+#[derive(Clone, Copy)]
 pub(crate) struct Position {
     pub next: Next,
     pub left: u64,

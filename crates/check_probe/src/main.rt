@@ -1,5 +1,7 @@
 // Answers the probe format, in octal numbers: each line of standard input is one call on the memories and the record in it,
 // and has one line of standard output.
+#![tactic(auto)]
+
 mod answer;
 mod call;
 mod central_call;

@@ -4,7 +4,7 @@ use super::line::{CENTRAL_LENGTH, Next, Numbers, PERIPHERAL_LENGTH, Position};
 use super::{answer, call, line, memory};
 use word_octal::read::{Digits, Fed, feed};
 
-#[derive(Drop)]
+#[derive(Clone, Copy)]
 pub(crate) struct Reader {
     pub digits: Digits,
     pub position: Position,

@@ -1,5 +1,7 @@
 // Prints the table of length and fitness for the field engineers: a line for each nine-bit beginning f m i, in their order. The expected
 // output, in the file stdout, was written by expected.py beside it, from the lists of documents 01 and 02.
+#![tactic(auto)]
+
 ghost use Rattle.std.specs.Prelude.{true, ◌≡◌, ◌<◌};
 ghost use Rattle.central_codes.specs.Table.{follows_rule};
 

@@ -1,6 +1,8 @@
 // Prints the results of every operation of `word_arithmetic`, `word_fields`, `central_condition` and `word_shift`, and of decoding, on edge operands, in octal.
 // The expected output, in the file stdout, was written by expected.py beside it, which goes by strings of bits and by signed whole numbers
 // and shares nothing with this code.
+#![tactic(auto)]
+
 mod nominal;
 mod show;
 mod values18;

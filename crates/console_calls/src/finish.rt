@@ -15,7 +15,7 @@ use shared_limits::limits::MOST_STINTS;
 pub const OUTPUT_BYTES: usize = 93 * MOST_STINTS + 44 * 4096;
 
 // What becomes of the end of an input.
-#[derive(Drop)]
+#[derive(Clone, Copy)]
 pub enum Output {
     // How much of the buffer the answer takes up.
     Bytes(usize),

@@ -10,7 +10,7 @@ pub const JOB_ENTRIES: usize = MOST_JOBS + 1;
 pub const STINT_ENTRIES: usize = MOST_STINTS + 1;
 
 // The kind of the last line.
-#[derive(Drop)]
+#[derive(Clone, Copy)]
 pub enum Part {
     // No line was read yet.
     Start,
@@ -24,7 +24,7 @@ pub enum Part {
 }
 
 // The kind of the last line, the length of the memory, and how many entries of the lists are in use.
-#[derive(Drop)]
+#[derive(Clone, Copy)]
 pub struct Progress {
     pub part: Part,
     pub words: usize,

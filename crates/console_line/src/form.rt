@@ -6,7 +6,7 @@ use super::one_value::{at_line, job_line, word_line, words_line};
 use super::text::begins_with;
 use super::two_values::stint_line;
 
-#[derive(Drop)]
+#[derive(Clone, Copy)]
 pub enum Line {
     // words=: how many words the memory has.
     Words(u64),

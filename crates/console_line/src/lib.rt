@@ -1,4 +1,6 @@
 // What one line of the console's input says.
+#![tactic(auto)]
+
 pub mod form;
 mod one_value;
 mod text;

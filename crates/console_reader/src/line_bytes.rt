@@ -3,7 +3,7 @@ ghost use Rattle.std.specs.Prelude.{◌≡◌, ◌≤◌, length};
 ghost use Rattle.console_reader.specs.LineBytes.{LineFilled};
 
 // Where the bytes of a line end, and how many of the line are kept.
-#[derive(Drop)]
+#[derive(Clone, Copy)]
 pub(crate) struct Filled {
     pub(crate) at: usize,
     pub(crate) length: usize,

@@ -14,7 +14,7 @@ use console_line::form::line_of;
 pub const MEMORY_WORDS: usize = 0o10000;
 
 // How far the input was read, and the line that has begun: its first bytes, and how many of them there are.
-#[derive(Drop)]
+#[derive(Clone, Copy)]
 pub struct Reader {
     pub progress: Progress,
     pub line: [u8; 32],
@@ -22,7 +22,7 @@ pub struct Reader {
 }
 
 // The verdict on what is lent, and the reader.
-#[derive(Drop)]
+#[derive(Clone, Copy)]
 pub struct FeedAnswer {
     pub verdict: Verdict,
     pub reader: Reader,

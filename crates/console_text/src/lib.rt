@@ -1,2 +1,4 @@
 // One line of an answer, written into a lent buffer.
+#![tactic(auto)]
+
 pub mod pieces;

@@ -6,7 +6,7 @@ use console_grammar::progress::Part;
 use console_line::form::Line;
 
 // What is wrong with an unreadable line.
-#[derive(Drop)]
+#[derive(Clone, Copy)]
 pub enum Rule {
     // It has none of the five forms.
     Form,

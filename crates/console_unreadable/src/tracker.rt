@@ -13,14 +13,14 @@ use console_reader::reader;
 use console_reader::reader::{Reader, feed_all, reader_verdict};
 
 // The first unreadable line: its number, from 1, and the rule that it breaks.
-#[derive(Drop)]
+#[derive(Clone, Copy)]
 pub enum Found {
     Nothing,
     Line(u64, Rule),
 }
 
 // The reader, the number of the line that it reads, and what was found.
-#[derive(Drop)]
+#[derive(Clone, Copy)]
 pub struct Tracker {
     pub reader: Reader,
     pub line: u64,
@@ -28,7 +28,7 @@ pub struct Tracker {
 }
 
 // The verdict on what is lent, and the tracker.
-#[derive(Drop)]
+#[derive(Clone, Copy)]
 pub struct TrackAnswer {
     pub verdict: Verdict,
     pub tracker: Tracker,

@@ -1,2 +1,4 @@
 // The exchange jump.
+#![tactic(auto)]
+
 pub mod jump;

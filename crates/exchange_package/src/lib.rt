@@ -1,2 +1,4 @@
 // The exchange package of a central record.
+#![tactic(auto)]
+
 pub mod package;

@@ -1,2 +1,4 @@
 // Normalize, code 24.
+#![tactic(auto)]
+
 pub mod normalize;

@@ -7,7 +7,7 @@ use floating_word::number::{Number, number_in, word_of};
 use floating_word::special::{is_indefinite, is_infinite};
 
 // What 24 sends to Xi and to Bj.
-#[derive(Drop)]
+#[derive(Clone, Copy)]
 pub struct Normal {
     pub word: u64,
     pub count: u64,

@@ -13,7 +13,7 @@ const BASE: u64 = 0o100000000;
 const TOP: u64 = 0o4000000000000000;
 
 // A product as moved, and the places, 0 or 1, by which it was moved.
-#[derive(Drop)]
+#[derive(Clone, Copy)]
 pub struct Product {
     pub high: u64,
     pub low: u64,

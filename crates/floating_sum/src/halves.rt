@@ -5,7 +5,7 @@ ghost use Rattle.floating_sum.specs.Sums.{placed};
 
 const ONES48: u64 = 0o7777777777777777;
 
-#[derive(Drop)]
+#[derive(Clone, Copy)]
 pub struct Halves {
     pub high: u64,
     pub low: u64,

@@ -13,7 +13,7 @@ use word_arithmetic::sums::{complement60, is_negative60};
 const OVERFLOW: u64 = 0o10000000000000000;
 
 // A sum of two aligned coefficients: a sign and up to 97 bits.
-#[derive(Drop)]
+#[derive(Clone, Copy)]
 pub struct Sum {
     pub minus: bool,
     pub high: u64,
@@ -21,7 +21,7 @@ pub struct Sum {
 }
 
 // A sum of 96 bits, and the exponent of its upper half, biased.
-#[derive(Drop)]
+#[derive(Clone, Copy)]
 pub struct Total {
     pub minus: bool,
     pub high: u64,

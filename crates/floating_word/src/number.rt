@@ -11,7 +11,7 @@ const ONES48: u64 = 0o7777777777777777;
 const LARGEST: u64 = 1022 + 1023;
 
 // The sign, the 48-bit size of the coefficient, and the exponent e as e + 1023.
-#[derive(Drop)]
+#[derive(Clone, Copy)]
 pub struct Number {
     pub minus: bool,
     pub size: u64,

@@ -1,4 +1,6 @@
 // The device calls by value, over those on a channel that is lent: the calls that a host makes are the ones that run here.
+#![tactic(auto)]
+
 ghost use Rattle.std.specs.Prelude.{◌≡◌};
 ghost use Rattle.whole_device.specs.Device.{device_answer_to, take_answer_to, put_of, take_of, drop_of};
 

@@ -5,7 +5,7 @@ ghost use Rattle.peripheral_channel.specs.Codes.{channel_input, channel_output, 
 use super::record::Channel;
 
 // What becomes of the channel.
-#[derive(Drop)]
+#[derive(Clone, Copy)]
 pub enum Change {
     // What the code needs is unmet, and the turn changes nothing.
     Wait,

@@ -4,7 +4,7 @@ ghost use Rattle.peripheral_channel.specs.Fits.{channel_fits};
 
 // The word stands first, so that in `PeripheralEffect` it lies where other effects have a number. Flags there would be split and joined by bytes in
 // every turn.
-#[derive(Drop)]
+#[derive(Clone, Copy)]
 pub struct Channel {
     // 12 bits.
     pub word: u64,

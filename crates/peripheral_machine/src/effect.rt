@@ -3,7 +3,7 @@ use base_outcome::stop::PeripheralStop;
 use peripheral_channel::record::Channel;
 
 // Each effect that goes on begins with the new P and A.
-#[derive(Drop)]
+#[derive(Clone, Copy)]
 pub enum PeripheralEffect {
     Advance(u64, u64),
     // An address of the processor's own memory and the word for it.

@@ -7,7 +7,7 @@ use central_record::record::Central;
 use peripheral_channel::record::Channel;
 
 // The record of a peripheral processor.
-#[derive(Drop)]
+#[derive(Clone, Copy)]
 pub struct Processor {
     pub p: u64,
     pub a: u64,

@@ -10,7 +10,7 @@ use shared_limits::limits::MOST_STINTS;
 use shared_verdict::verdict::schedule_verdict;
 
 // The verdict, the record, and of each stint the turns made and the stop's number, or 0. Entries past the last stint are 0.
-#[derive(Drop)]
+#[derive(Clone, Copy)]
 pub struct ScheduleAnswer {
     pub verdict: Verdict,
     pub central: Central,

@@ -8,7 +8,7 @@ use shared_limits::limits::MOST_STINTS;
 use single_stint::stint::stint;
 
 // The record after the stints, and of each stint the turns made and the stop's number, or 0. Entries past the last stint are 0.
-#[derive(Drop)]
+#[derive(Clone, Copy)]
 pub struct StintsEnd {
     pub central: Central,
     pub turns: [u64; MOST_STINTS],

@@ -1,5 +1,5 @@
 // Who is at fault in a refused schedule: jobs and stints by their numbers, from 0.
-#[derive(Drop)]
+#[derive(Clone, Copy)]
 pub enum Fault {
     // Nobody by himself: the schedule is accepted, or refused for the host's memory or record or for lists of unequal length.
     Nobody,

@@ -11,7 +11,7 @@ use base_outcome::refusal::{Refusal, Verdict};
 use central_record::record::Central;
 use shared_verdict::verdict::schedule_verdict;
 
-#[derive(Drop)]
+#[derive(Clone, Copy)]
 pub struct Finding {
     pub verdict: Verdict,
     pub fault: Fault,

@@ -1,2 +1,4 @@
 // The limits of a schedule's lists.
+#![tactic(auto)]
+
 pub mod limits;

@@ -12,7 +12,7 @@ use exchange_package::package::load;
 use single_stint::stint::stint;
 
 // The verdict, the record, the turns made, and the stop's number, or 0.
-#[derive(Drop)]
+#[derive(Clone, Copy)]
 pub struct ProgramAnswer {
     pub verdict: Verdict,
     pub central: Central,

@@ -8,7 +8,7 @@ use central_record::record::{Central, host_verdict};
 use exchange_jump::jump::{exchange_jump, package_verdict};
 
 // The verdict and the record.
-#[derive(Drop)]
+#[derive(Clone, Copy)]
 pub struct Answer {
     pub verdict: Verdict,
     pub central: Central,

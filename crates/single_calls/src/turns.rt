@@ -9,7 +9,7 @@ use central_record::record::{Central, host_verdict};
 use single_stint::field::{Ran, run};
 
 // The verdict, the record and the turns made.
-#[derive(Drop)]
+#[derive(Clone, Copy)]
 pub struct TurnsAnswer {
     pub verdict: Verdict,
     pub central: Central,

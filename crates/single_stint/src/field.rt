@@ -9,7 +9,7 @@ use central_record::record::Central;
 use central_turn::turn::turns;
 
 // The record after turns, and how many were made.
-#[derive(Drop)]
+#[derive(Clone, Copy)]
 pub struct Ran {
     pub central: Central,
     pub turns: u64,

@@ -7,7 +7,7 @@ use central_record::record::Central;
 use exchange_jump::jump::exchange_jump;
 
 // The record after a stint, the turns it made, and its stop's number, or 0.
-#[derive(Drop)]
+#[derive(Clone, Copy)]
 pub struct StintEnd {
     pub central: Central,
     pub turns: u64,

@@ -1,4 +1,6 @@
 // The console program: the input on standard input, its answer on standard output.
+#![tactic(auto)]
+
 use console_calls::finish::{OUTPUT_BYTES, Output, finish};
 use console_grammar::progress::{JOB_ENTRIES, STINT_ENTRIES};
 use console_reader::reader::{MEMORY_WORDS, Reader, feed, start};

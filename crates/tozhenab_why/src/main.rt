@@ -1,4 +1,6 @@
 // Says why the input on standard input is refused: `refused=` with the console's number, or 0, and then who is at fault. It runs no schedule.
+#![tactic(auto)]
+
 use console_calls::finish::Output;
 use console_grammar::progress::{JOB_ENTRIES, STINT_ENTRIES};
 use console_reader::reader::MEMORY_WORDS;

@@ -15,14 +15,14 @@ use whole_rounds::round;
 use whole_verdict::verdict::{run_verdict, turn_verdict};
 
 // The verdict and the record.
-#[derive(Drop)]
+#[derive(Clone, Copy)]
 pub struct TurnAnswer {
     pub verdict: Verdict,
     pub machine: MachineRecord,
 }
 
 // The verdict, the record and the rounds made.
-#[derive(Drop)]
+#[derive(Clone, Copy)]
 pub struct RunAnswer {
     pub verdict: Verdict,
     pub machine: MachineRecord,
@@ -30,7 +30,7 @@ pub struct RunAnswer {
 }
 
 // The record after a run, and the rounds made.
-#[derive(Drop)]
+#[derive(Clone, Copy)]
 struct Ran {
     machine: MachineRecord,
     rounds: u64,

@@ -6,7 +6,7 @@ use base_outcome::refusal::{Refusal, Verdict};
 use peripheral_channel::record::{Channel, channel_fits};
 
 // What becomes of a take.
-#[derive(Drop)]
+#[derive(Clone, Copy)]
 pub enum Taken {
     // The word, and whether it is a function.
     Word(u64, bool),
@@ -26,14 +26,14 @@ impl Taken {
 }
 
 // The verdict on a put or a drop, and the channel.
-#[derive(Drop)]
+#[derive(Clone, Copy)]
 pub struct DeviceAnswer {
     pub verdict: Verdict,
     pub channel: Channel,
 }
 
 // What is taken, and the channel.
-#[derive(Drop)]
+#[derive(Clone, Copy)]
 pub struct TakeAnswer {
     pub verdict: Taken,
     pub channel: Channel,

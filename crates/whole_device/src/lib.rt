@@ -1,2 +1,4 @@
 // The device calls.
+#![tactic(auto)]
+
 pub mod calls;

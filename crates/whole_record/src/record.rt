@@ -4,7 +4,7 @@ use peripheral_channel::record::Channel;
 use peripheral_machine::numbers::Processor;
 
 // All registers and channels of the machine. There are ten processor records, however many processors the peripheral memory has.
-#[derive(Drop)]
+#[derive(Clone, Copy)]
 pub struct MachineRecord {
     pub central: Central,
     pub clock: u64,

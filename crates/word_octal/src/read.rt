@@ -3,14 +3,14 @@ ghost use Rattle.std.specs.Prelude.{◌≡◌, ◌<◌};
 ghost use Rattle.word_octal.specs.Read.{no_digits, after_digit, after_end, feed_of};
 
 // The digits of one number that were read so far: their value, and whether there are any.
-#[derive(Drop)]
+#[derive(Clone, Copy)]
 pub struct Digits {
     pub value: u64,
     pub begun: bool,
 }
 
 // What a byte after these digits makes of them.
-#[derive(Drop)]
+#[derive(Clone, Copy)]
 pub enum Fed {
     More(Digits),
     // A space or a line feed ended the number.

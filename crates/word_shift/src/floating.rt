@@ -9,7 +9,7 @@ const SIGN: u64 = 0o40000000000000000000;
 const ONES48: u64 = 0o7777777777777777;
 
 // What 26 sends to Xi and to Bj.
-#[derive(Drop)]
+#[derive(Clone, Copy)]
 pub struct Unpacked {
     pub coefficient: u64,
     pub exponent: u64,
