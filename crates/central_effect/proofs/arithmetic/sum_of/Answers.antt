@@ -1,0 +1,66 @@
+-- `central_effect::arithmetic::sum_of` meets its contract.
+use borrow.Author.Rules.{rules}
+use Rattle.base_logic.specs.Laws.Match.{last_arm}
+use Rattle.central_effect.specs.Floating.{floating_sum_to}
+use Rattle.central_effect.specs.Effects.{sum_of}
+use Rattle.central_effect.proofs.arithmetic.sum_of.Goals as goal
+
+pub returns-in-0 : goal.returns-in-0
+unfolding sum_of floating_sum_to
+returns-in-0 c =
+    let match = c.in-0 in
+    let floating-sum = c.floating_sum in
+    let x-of = c.x_of-xj in
+    let x-of2 = c.x_of-xk in
+    rw (match.keys1, c.result_to.ensures, floating-sum.ensures, x-of.ensures.is, x-of2.ensures.is)
+
+pub returns-in-1 : goal.returns-in-1
+unfolding sum_of floating_sum_to
+returns-in-1 c =
+    let match = c.in-1 in
+    let floating-sum2 = c.floating_sum-in-1 in
+    let x-of = c.x_of-xj in
+    let x-of2 = c.x_of-xk in
+    rw (match.keys2, c.result_to-in-1.ensures, floating-sum2.ensures, x-of.ensures.is, x-of2.ensures.is)
+
+pub returns-in-2 : goal.returns-in-2
+unfolding sum_of floating_sum_to
+returns-in-2 c =
+    let match = c.in-2 in
+    let floating-sum3 = c.floating_sum-in-2 in
+    let x-of = c.x_of-xj in
+    let x-of2 = c.x_of-xk in
+    rw (match.keys3, c.result_to-in-2.ensures, floating-sum3.ensures, x-of.ensures.is, x-of2.ensures.is)
+
+pub returns-in-3 : goal.returns-in-3
+unfolding sum_of floating_sum_to
+returns-in-3 c =
+    let match = c.in-3 in
+    let floating-sum4 = c.floating_sum-in-3 in
+    let x-of = c.x_of-xj in
+    let x-of2 = c.x_of-xk in
+    rw (match.keys4, c.result_to-in-3.ensures, floating-sum4.ensures, x-of.ensures.is, x-of2.ensures.is)
+
+pub returns-in-4 : goal.returns-in-4
+unfolding sum_of
+returns-in-4 c = rw c.in-4.is
+
+pub returns-in-5 : goal.returns-in-5
+unfolding sum_of
+returns-in-5 c = rw c.in-5.is
+
+pub returns-in-6 : goal.returns-in-6
+unfolding sum_of
+returns-in-6 c =
+    let match = c.in-6 in
+    let x-of = c.x_of-xj in
+    let x-of2 = c.x_of-xk in
+    rw (match.keys7, c.sum60.ensures, x-of.ensures.is, x-of2.ensures.is)
+
+pub returns-in_default : goal.returns-in_default
+unfolding sum_of
+returns-in_default c =
+    let match = c.in_default in
+    let x-of = c.x_of-xj in
+    let x-of2 = c.x_of-xk in
+    rw (last_arm 7 _ (search rules) match.rest, c.difference60.ensures, x-of.ensures.is, x-of2.ensures.is)

@@ -1,0 +1,50 @@
+-- `central_effect::increments::operand` meets its contract.
+use borrow.Author.Rules.{rules}
+use Rattle.base_logic.specs.Laws.Match.{last_arm}
+use Rattle.central_effect.specs.Effects.{operand_of}
+use Rattle.central_effect.proofs.increments.operand.Goals as goal
+
+pub returns-in-0 : goal.returns-in-0
+unfolding operand_of
+returns-in-0 c = rw (c.in-0.is, c.sum18.ensures, c.a_of.ensures.is)
+
+pub returns-in-1 : goal.returns-in-1
+unfolding operand_of
+returns-in-1 c = rw (c.in-1.is, c.sum18-in-1.ensures, c.b_of.ensures.is)
+
+pub returns-in-2 : goal.returns-in-2
+unfolding operand_of
+returns-in-2 c = rw (c.in-2.is, c.sum18-in-2.ensures, c.low18.ensures, c.x_of.ensures.is)
+
+pub returns-in-3 : goal.returns-in-3
+unfolding operand_of
+returns-in-3 c =
+    let match = c.in-3 in
+    let x-of2 = c.x_of-in-3 in
+    let low182 = c.low18-in-3 in
+    let b-of2 = c.b_of-in-3 in
+    rw (match.keys4, c.sum18-in-3.ensures, low182.ensures, b-of2.ensures.is, x-of2.ensures.is)
+
+pub returns-in-4 : goal.returns-in-4
+unfolding operand_of
+returns-in-4 c = rw (c.in-4.is, c.sum18-in-4.ensures, c.b_of-in-4.ensures.is, c.a_of-in-4.ensures.is)
+
+pub returns-in-5 : goal.returns-in-5
+unfolding operand_of
+returns-in-5 c =
+    let match = c.in-5 in
+    let a-of3 = c.a_of-in-5 in
+    let b-of4 = c.b_of-in-5 in
+    rw (match.keys6, c.difference18.ensures, b-of4.ensures.is, a-of3.ensures.is)
+
+pub returns-in-6 : goal.returns-in-6
+unfolding operand_of
+returns-in-6 c = rw (c.in-6.is, c.sum18-in-6.ensures, c.b_of-in-6-2.ensures.is, c.b_of-in-6.ensures.is)
+
+pub returns-in_default : goal.returns-in_default
+unfolding operand_of
+returns-in_default c =
+    let match = c.in_default in
+    let b-of7 = c.b_of-in_default in
+    let b-of8 = c.b_of-in_default-2 in
+    rw (last_arm 7 _ (search rules) match.rest, c.difference18-in_default.ensures, b-of8.ensures.is, b-of7.ensures.is)

@@ -1,0 +1,14 @@
+-- `central_record::record::words_fit` meets its contract.
+use Prim.Native.Nat.{◌-◌}
+use native.Mathlib.Omega.{arith}
+use borrow.Author.Rules.{rules}
+use lib.ListN.{length}
+use Rattle.central_record.specs.Record.{words_fit}
+use Rattle.central_record.specs.Laws.Widths.{Joined, none-joined, one-joined, all-joined}
+use Rattle.central_record.proofs.record.words_fit.Given as goal
+
+abbrev pub invariant-loop-i : goal.invariant-loop-i
+invariant-loop-i l = Joined 60 l.m l.i l.all
+
+abbrev pub decreases-loop-i : goal.decreases-loop-i
+decreases-loop-i l = length l.m - l.i

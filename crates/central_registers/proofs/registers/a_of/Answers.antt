@@ -1,0 +1,8 @@
+-- `central_registers::registers::a_of` meets its contract.
+use mathlib.Core.Path.{refl}
+use native.Mathlib.Omega.{arith}
+use borrow.Author.Rules.{rules}
+use Rattle.central_registers.proofs.registers.a_of.Goals as goal
+
+pub returns : goal.returns
+returns c = record { is = refl; small = c.requires.1.short c.args.i (omega arith) }

@@ -1,0 +1,8 @@
+-- `central_registers::registers::x_of` meets its contract.
+use mathlib.Core.Path.{refl}
+use Prim.Native.Nat.{◌+◌}
+use borrow.Author.Rules.{rules}
+use Rattle.central_registers.proofs.registers.x_of.Goals as goal
+
+pub returns : goal.returns
+returns c = record { is = refl; small = c.requires.1.long (16 + c.args.i) }

@@ -1,0 +1,42 @@
+-- `central_turn::step::step` meets its contract.
+use native.Mathlib.Omega.{arith}
+use borrow.Author.Rules.{rules}
+use lib.Pow.{shr_lt}
+use Rattle.central_decode.specs.Laws.Shifted.{top-fits}
+use Rattle.central_effect.specs.Laws.Effects.{effect-sound}
+use Rattle.central_turn.specs.Laws.Remaining.{entry-at-top, ran-unfit, ran-cut, ran-whole}
+use Rattle.central_turn.proofs.step.step.Goals as goal
+
+pub entry_of-entry-requires : goal.entry_of-entry-requires
+entry_of-entry-requires c = (c.requires.1.1.0, shr_lt 9 55 (omega arith))
+
+pub returns-then-entry-ge-UNFIT : goal.returns-then-entry-ge-UNFIT
+returns-then-entry-ge-UNFIT c =
+    let pre = c.requires in
+    let entry_of = c.entry_of-entry in
+    let is = entry-at-top _ _ entry_of.ensures in
+    ran-unfit _ _ _ _ _ _ pre.1.1.1.1.0 pre.1.1.1.1.1 is c.if-entry-ge-UNFIT.true
+
+pub returns-then-remaining-entry : goal.returns-then-remaining-entry
+returns-then-remaining-entry c =
+    let pre = c.requires in
+    let entry_of = c.entry_of-entry in
+    let is = entry-at-top _ _ entry_of.ensures in
+    ran-cut _ _ _ _ _ _ pre.1.1.1.1.0 pre.1.1.1.1.1 is c.if-entry-ge-UNFIT.false c.if-remaining-entry.true
+
+pub apply-requires : goal.apply-requires
+apply-requires c =
+    let pre = c.requires in
+    let args = c.args in
+    let effect_of = c.effect_of-e in
+    (pre.1.0, rw effect_of.ensures (effect-sound _ _ pre.0 (top-fits args.v (omega arith)) _ _ pre.1.1.1.0))
+
+pub returns : goal.returns
+returns c =
+    let pre = c.requires in
+    let entry_of = c.entry_of-entry in
+    let if1 = c.if-remaining-entry in
+    let effect_of = c.effect_of-e in
+    let apply = c.apply in
+    let is = entry-at-top _ _ entry_of.ensures in
+    ran-whole _ _ _ _ _ _ pre.1.1.1.1.0 pre.1.1.1.1.1 is _ _ if1.false effect_of.ensures apply.ensures

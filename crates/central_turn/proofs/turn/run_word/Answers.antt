@@ -1,0 +1,98 @@
+-- `central_turn::turn::run_word` meets its contract.
+use mathlib.Core.Path.{◌∙◌, sym}
+use native.Mathlib.Omega.{arith}
+use borrow.Author.Rules.{rules}
+use Rattle.central_apply.specs.State.{state}
+use Rattle.central_turn.specs.Laws.Shifted.{Shifted, shifted_start, shifted-on, shifted-branch, shifted-stop, shifted_end}
+use Rattle.central_turn.proofs.turn.run_word.Goals as goal
+
+pub loop-remaining-init : goal.loop-remaining-init
+loop-remaining-init c = shifted_start _ _ _ _ c.requires.0
+
+pub step-requires : goal.step-requires
+step-requires c =
+    let pre = c.requires in
+    let inv = c.loop-remaining.invariant in
+    let kept = inv.going.kept in (
+      kept.wide,
+      (
+        record { size = kept.size; room = pre.1.0 },
+        (pre.1.1.0, (omega (arith, pre.1.0, pre.1.1.1), (omega (arith, inv.total), omega (arith, inv.total)))),
+      ),
+    )
+
+pub overflow_sub-v : goal.overflow_sub-v
+overflow_sub-v c =
+    let pre = c.requires in
+    let loop = c.loop-remaining in
+    let loop-test = c.loop-remaining-test in
+    let step = c.step in
+    let next = c.next-1 in
+    omega (arith, (shifted-on _ _ _ (omega (arith, pre.1.0)) pre.1.1.1 _ _ _ _ loop.invariant loop-test.true _ step.ensures _ next.given.1).0)
+
+pub overflow_shl-v-in-Next : goal.overflow_shl-v-in-Next
+overflow_shl-v-in-Next c = omega (arith, c.loop-remaining.invariant.total)
+
+pub loop-remaining-smaller : goal.loop-remaining-smaller
+loop-remaining-smaller c =
+    let pre = c.requires in
+    let loop = c.loop-remaining in
+    let loop-test = c.loop-remaining-test in
+    let step = c.step in
+    let next = c.next-1 in
+    (shifted-on _ _ _ (omega (arith, pre.1.0)) pre.1.1.1 _ _ _ _ loop.invariant loop-test.true _ step.ensures _ next.given.1).0
+
+pub loop-remaining-preserved : goal.loop-remaining-preserved
+loop-remaining-preserved c =
+    let pre = c.requires in
+    let loop = c.loop-remaining in
+    let loop-test = c.loop-remaining-test in
+    let step = c.step in
+    let next = c.next-1 in
+    (shifted-on _ _ _ (omega (arith, pre.1.0)) pre.1.1.1 _ _ _ _ loop.invariant loop-test.true _ step.ensures _ next.given.1).1
+
+pub shape_of-f-in-Branch : goal.shape_of-f-in-Branch
+shape_of-f-in-Branch c =
+    let pre = c.requires in
+    let loop = c.loop-remaining in
+    let step = c.step in
+    step.auto.1.0 ∙ loop.invariant.going.kept.size ∙ sym pre.0.size
+
+pub returns-in-Branch : goal.returns-in-Branch
+returns-in-Branch c =
+    let pre = c.requires in
+    let loop = c.loop-remaining in
+    let loop-test = c.loop-remaining-test in
+    let step = c.step in
+    let target = c.target-1 in
+    shifted-branch _ _ _ (omega (arith, pre.1.0)) pre.1.1.1 _ _ _ _ loop.invariant loop-test.true _ step.ensures _ target.given.1
+
+pub shape_of-f-in-Stop : goal.shape_of-f-in-Stop
+shape_of-f-in-Stop c =
+    let pre = c.requires in
+    let loop = c.loop-remaining in
+    let step = c.step in
+    step.auto.1.0 ∙ loop.invariant.going.kept.size ∙ sym pre.0.size
+
+pub returns-in-Stop : goal.returns-in-Stop
+returns-in-Stop c =
+    let pre = c.requires in
+    let loop = c.loop-remaining in
+    let loop-test = c.loop-remaining-test in
+    let step = c.step in
+    let s = c.s-1 in
+    let number = c.number in
+    rw number.ensures (shifted-stop _ _ _ (omega (arith, pre.1.0)) pre.1.1.1 _ _ _ _ loop.invariant loop-test.true _ step.ensures _ s.given.1)
+
+pub overflow_add-result : goal.overflow_add-result
+overflow_add-result c = omega (arith, c.requires.1)
+
+pub shape_of-f : goal.shape_of-f
+shape_of-f c = c.loop-remaining.invariant.going.kept.size ∙ sym c.requires.0.size
+
+pub returns : goal.returns
+returns c =
+    let pre = c.requires in
+    let loop = c.loop-remaining in
+    let loop-test = c.loop-remaining-test in
+    shifted_end _ _ _ (omega (arith, pre.1.0)) pre.1.1.1 _ _ _ _ loop.invariant (omega (arith, loop-test.false))

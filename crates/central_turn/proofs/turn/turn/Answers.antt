@@ -1,0 +1,35 @@
+-- `central_turn::turn::turn` meets its contract.
+use mathlib.Core.Path.{◌∙◌, sym, subst}
+use Rattle.central_field.specs.Address.{Within}
+use Rattle.central_turn.specs.Turn.{turn_of}
+use Rattle.central_field.specs.Laws.Address.{place-within, inside-below}
+use Rattle.central_field.specs.declared.address.Place.{Place}
+use borrow.Author.Rules.{rules}
+use Rattle.central_turn.proofs.turn.turn.Goals as goal
+
+pub index-n-requires : goal.index-n-requires
+index-n-requires c =
+    let args = c.args in
+    let convert = c.convert in
+    let a = c.a-1 in
+    subst (λ (p : Place). Within args.b p) (sym convert.ensures ∙ a.given.1) (place-within _ _)
+
+pub run_word-requires : goal.run_word-requires
+run_word-requires c =
+    let pre = c.requires in
+    let convert = c.convert in
+    let a = c.a-1 in
+    (pre.0, (pre.1.0, (pre.1.1, inside-below _ _ _ (sym convert.ensures ∙ a.given.1))))
+
+pub returns-in-Inside : goal.returns-in-Inside
+unfolding turn_of
+returns-in-Inside c =
+    let convert = c.convert in
+    let a = c.a-1 in
+    let index = c.index-n in
+    let run-word = c.run_word in
+    rw (← convert.ensures, a.given.1, ← index.ensures.is) run-word.ensures
+
+pub returns-in-Outside : goal.returns-in-Outside
+unfolding turn_of
+returns-in-Outside c = rw (← c.convert.ensures, c.in-Outside.is, c.number.ensures)

@@ -1,0 +1,59 @@
+-- `central_turn::turn::turns` meets its contract.
+use mathlib.Core.Path.{◌∙◌, sym}
+use native.Mathlib.Omega.{arith}
+use Rattle.central_apply.specs.State.{state}
+use Rattle.central_turn.specs.Laws.Run.{RunGoing, run-going-start, run-going-on, run-going-stop, run-going-end}
+use Rattle.central_turn.proofs.turn.turns.Goals as goal
+
+pub loop-left-init : goal.loop-left-init
+loop-left-init c = run-going-start _ _ _ _ c.requires.1.1.1 c.requires.0
+
+pub turn-e-requires : goal.turn-e-requires
+turn-e-requires c =
+    let pre = c.requires in
+    let loop = c.loop-left in
+    (loop.invariant.kept, (pre.1.0, pre.1.1.0))
+
+pub overflow_sub-left : goal.overflow_sub-left
+overflow_sub-left c = omega arith
+
+pub overflow_sub-result : goal.overflow_sub-result
+overflow_sub-result c = omega (arith, c.loop-left.invariant.most)
+
+pub shape_of-f-then-e-ne0 : goal.shape_of-f-then-e-ne0
+shape_of-f-then-e-ne0 c =
+    let pre = c.requires in
+    let loop = c.loop-left in
+    let turn = c.turn-e in
+    turn.auto.1.0 ∙ loop.invariant.kept.size ∙ sym pre.0.size
+
+pub returns-then-e-ne0 : goal.returns-then-e-ne0
+returns-then-e-ne0 c =
+    let pre = c.requires in
+    let loop = c.loop-left in
+    let loop-test = c.loop-left-test in
+    let turn = c.turn-e in
+    let if1 = c.if-e-ne0 in
+    run-going-stop _ (omega (arith, pre.1.0)) _ _ _ _ _ _ loop.invariant loop-test.true _ turn.ensures if1.true
+
+pub loop-left-smaller : goal.loop-left-smaller
+loop-left-smaller c = omega arith
+
+pub loop-left-preserved : goal.loop-left-preserved
+loop-left-preserved c =
+    let pre = c.requires in
+    let loop = c.loop-left in
+    let loop-test = c.loop-left-test in
+    let turn = c.turn-e in
+    let if1 = c.if-e-ne0 in
+    run-going-on _ (omega (arith, pre.1.0)) _ _ _ _ _ _ loop.invariant loop-test.true _ turn.ensures if1.false
+
+pub shape_of-f : goal.shape_of-f
+shape_of-f c = c.loop-left.invariant.kept.size ∙ sym c.requires.0.size
+
+pub returns : goal.returns
+returns c =
+    let pre = c.requires in
+    let loop = c.loop-left in
+    let loop-test = c.loop-left-test in
+    run-going-end _ (omega (arith, pre.1.0)) _ _ _ _ _ _ loop.invariant loop-test.false

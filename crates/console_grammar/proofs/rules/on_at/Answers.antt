@@ -1,0 +1,29 @@
+-- `console_grammar::rules::on_at` meets its contract.
+use native.Mathlib.Omega.{arith}
+use borrow.Author.Rules.{rules}
+use Rattle.console_grammar.specs.Laws.Refused.{line_refused}
+use Rattle.console_grammar.specs.Laws.Blocks.{begin-first, at-or-below, below_end, begin-next}
+use Rattle.console_grammar.proofs.Parts.{no-at}
+use Rattle.console_grammar.proofs.rules.on_at.Goals as goal
+
+pub returns-then-a-start : goal.returns-then-a-start
+returns-then-a-start c =
+    let block = c.in-Block.is in
+    λ m l room. line_refused c.refuse.ensures (at-or-below _ _ _ _ block (omega (arith, c.if-a-start.true)))
+
+pub returns-then-a-end : goal.returns-then-a-end
+returns-then-a-end c =
+    let block = c.in-Block.is in
+    λ m l room. line_refused c.refuse-then-a-end.ensures
+    (below_end _ _ _ _ block (omega (arith, c.if-a-start.false, c.if-a-end.true)))
+
+pub returns-in-Words : goal.returns-in-Words
+returns-in-Words c = begin-first c.in-Words.is c.begin.ensures
+
+pub returns-else-a-end : goal.returns-else-a-end
+returns-else-a-end c =
+    let block = c.in-Block.is in
+    begin-next block (omega (arith, c.if-a-start.false)) (omega (arith, c.if-a-end.false)) c.begin-in-Block.ensures
+
+pub returns-in_default : goal.returns-in_default
+returns-in_default c = λ m l room. line_refused c.refuse-in_default.ensures (no-at c.args.p.part c.in_default.keys3 _)

@@ -1,0 +1,12 @@
+-- `console_line::text::begins_with` meets its contract.
+use Prim.Native.Nat.{◌-◌}
+use native.Mathlib.Omega.{arith}
+use lib.ListN.{length}
+use Rattle.console_line.specs.Laws.Text.{Matched, matched-start, matched-end, text-ends, byte-differs, matched-next}
+use Rattle.console_line.proofs.text.begins_with.Given as goal
+
+abbrev pub invariant-loop-i : goal.invariant-loop-i
+invariant-loop-i l = Matched l.name l.text l.i
+
+abbrev pub decreases-loop-i : goal.decreases-loop-i
+decreases-loop-i l = length l.name - l.i

@@ -1,0 +1,12 @@
+-- `console_line::text::first_comma` meets its contract.
+use Prim.Native.Nat.{◌-◌}
+use native.Mathlib.Omega.{arith}
+use lib.ListN.{length}
+use Rattle.console_line.specs.Laws.Text.{Looked, looked-start, no-comma, comma-here, looked-next}
+use Rattle.console_line.proofs.text.first_comma.Given as goal
+
+abbrev pub invariant-loop-i : goal.invariant-loop-i
+invariant-loop-i l = Looked l.text l.i
+
+abbrev pub decreases-loop-i : goal.decreases-loop-i
+decreases-loop-i l = length l.text - l.i

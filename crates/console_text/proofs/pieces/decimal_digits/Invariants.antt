@@ -1,0 +1,11 @@
+-- `console_text::pieces::decimal_digits` meets its contract.
+use native.Mathlib.Omega.{arith}
+use lib.ListN.{length, length-set}
+use Rattle.console_text.specs.Laws.Decimal.{DecimalLeft, decimal-start, decimal-put, decimal-end}
+use Rattle.console_text.proofs.pieces.decimal_digits.Given as goal
+
+abbrev pub invariant-loop-at : goal.invariant-loop-at
+invariant-loop-at l = DecimalLeft (length l.initial.buffer) l.v l.buffer l.at l.rest
+
+abbrev pub decreases-loop-at : goal.decreases-loop-at
+decreases-loop-at l = l.at

@@ -1,0 +1,18 @@
+-- `console_text::pieces::write_number_line` meets its contract.
+use native.Mathlib.Omega.{arith}
+use borrow.Author.Rules.{rules}
+use Rattle.base_lists.specs.Laws.Written.{length-wrote, wrote_then}
+use Rattle.console_text.specs.Laws.Decimal.{length-decimal}
+use Rattle.console_text.proofs.pieces.write_number_line.Goals as goal
+
+pub write_text-requires : goal.write_text-requires
+write_text-requires c =
+    let name = c.write_text-value_at.ensures in
+    let value = c.write_decimal_number-end.ensures in
+    omega (arith, name.ends, length-wrote name, value.ends, length-wrote value, length-decimal 20 c.args.value)
+
+pub returns : goal.returns
+returns c =
+    let name = c.write_text-value_at.ensures in
+    let value = c.write_decimal_number-end.ensures in
+    wrote_then name (wrote_then value c.write_text.ensures)

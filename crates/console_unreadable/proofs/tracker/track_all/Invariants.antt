@@ -1,0 +1,22 @@
+-- `console_unreadable::tracker::track_all` meets its contract.
+use mathlib.Core.Path.{◌≡◌, refl, ◌∙◌}
+use Prim.Native.Nat.{◌-◌}
+use native.Mathlib.Omega.{arith}
+use lib.ListN.{length}
+use Rattle.console_grammar.specs.Held.{lists}
+use Rattle.console_unreadable.specs.Laws.Tracker.{TrackingOn, tracking-start, tracking-ready, tracking-next, tracking-end}
+use Rattle.console_unreadable.specs.Tracker.{tracker_state}
+use Rattle.console_unreadable.proofs.tracker.track_all.Given as goal
+
+abbrev pub invariant-loop-at : goal.invariant-loop-at
+invariant-loop-at l =
+    TrackingOn l.bytes (tracker_state l.initial.tracker l.initial.memory (lists l.initial.jobs l.initial.stint_jobs l.initial.stint_turns))
+    l.at l.tracker l.memory (lists l.jobs l.stint_jobs l.stint_turns)
+    × (length l.memory ≡ length l.initial.memory)
+    × (length l.jobs ≡ length l.initial.jobs)
+    × (length l.stint_jobs ≡ length l.initial.stint_jobs)
+    × (length l.stint_turns ≡ length l.initial.stint_turns)
+
+abbrev pub decreases-loop-at : goal.decreases-loop-at
+decreases-loop-at l =
+    length l.bytes - l.at

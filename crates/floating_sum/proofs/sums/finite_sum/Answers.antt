@@ -1,0 +1,32 @@
+-- `floating_sum::sums::finite_sum` meets its contract.
+use native.Mathlib.Omega.{arith}
+use borrow.Author.Rules.{rules}
+use Rattle.floating_sum.proofs.Steps.{placed-cut, sum-cut, sum_is}
+use Rattle.floating_sum.proofs.sums.finite_sum.Goals as goal
+
+pub signed_sum-s-requires : goal.signed_sum-s-requires
+signed_sum-s-requires c =
+    let pre = c.requires in
+    let placed = c.placed-a in
+    (placed-cut _ _ _ pre.0 placed.ensures, placed-cut _ _ _ pre.1 c.placed-b.ensures)
+
+pub moved-requires : goal.moved-requires
+moved-requires c =
+    let placed = c.placed-a in
+    let placed2 = c.placed-b in
+    let signed-sum = c.signed_sum-s in
+    let pre = c.requires in (
+      sum-cut _ _ _ _ _ _ _ placed.ensures placed2.ensures signed-sum.ensures pre.0 pre.1,
+      omega (arith, c.larger.ensures, pre.0.biased-lt, pre.1.biased-lt),
+    )
+
+pub returns : goal.returns
+returns c =
+    let placed = c.placed-a in
+    let placed2 = c.placed-b in
+    let signed-sum = c.signed_sum-s in
+    let behind = c.behind in
+    let behind2 = c.behind-2 in
+    let larger = c.larger in
+    sum_is _ _ _ _ _ _ _ placed.ensures placed2.ensures signed-sum.ensures _ _ behind.ensures behind2.ensures larger.ensures
+    c.moved.ensures

@@ -1,0 +1,23 @@
+-- `host_answer::results::keep_taken` meets its contract.
+use borrow.Author.Rules.{rules}
+use Rattle.host_answer.specs.Laws.Results.{taken_is, taken_refused}
+use Rattle.host_answer.proofs.results.keep_taken.Goals as goal
+
+pub store_channel-requires : goal.store_channel-requires
+store_channel-requires c =
+    let pre = c.requires in
+    let taken = c.taken-1 in
+    pre.word taken.given.1
+
+pub returns-in-Word : goal.returns-in-Word
+returns-in-Word c =
+    let args = c.args in
+    let taken = c.taken-1 in
+    let store-channel = c.store_channel in
+    taken_is args.channel.now _ args.result.now args.a _ _ _ taken.given.1 store-channel.ensures c.flag.ensures
+
+pub returns-in-Refused : goal.returns-in-Refused
+returns-in-Refused c =
+    let args = c.args in
+    let taken2 = c.taken-in-Refused-1 in
+    taken_refused args.channel.now args.channel.now args.result.now args.a _ _ taken2.given.1 c.number.ensures

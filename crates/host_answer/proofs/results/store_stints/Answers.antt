@@ -1,0 +1,52 @@
+-- `host_answer::results::store_stints` meets its contract.
+use mathlib.Core.Path.{refl}
+use Prim.Native.Nat.{◌-◌}
+use native.Mathlib.Omega.{arith}
+use borrow.Author.Rules.{rules}
+use lib.ListN.{length-set}
+use Rattle.base_lists.specs.Laws.Rows.{RowsStored, no-row-stored, length-stored, one-row-stored, all-rows-stored}
+use Rattle.host_answer.specs.Laws.Results.{pair-stored}
+use Rattle.host_answer.specs.Results.{stint_row}
+use Rattle.host_answer.proofs.results.store_stints.Goals as goal
+
+pub loop-i-init : goal.loop-i-init
+loop-i-init c = no-row-stored
+
+pub overflow_mul-res : goal.overflow_mul-res
+overflow_mul-res c = omega arith
+
+pub offset_bounds-res-i : goal.offset_bounds-res-i
+offset_bounds-res-i c = omega arith
+
+pub bounds-res-i : goal.bounds-res-i
+bounds-res-i c = omega (arith, length-stored c.loop-i.invariant)
+
+pub overflow_mul-res-in-loop-i : goal.overflow_mul-res-in-loop-i
+overflow_mul-res-in-loop-i c = omega arith
+
+pub overflow_add-res : goal.overflow_add-res
+overflow_add-res c = omega arith
+
+pub offset_bounds-res-i-in-loop-i : goal.offset_bounds-res-i-in-loop-i
+offset_bounds-res-i-in-loop-i c = omega arith
+
+pub bounds-res-i-in-loop-i : goal.bounds-res-i-in-loop-i
+bounds-res-i-in-loop-i c = simp length-set (omega (arith, length-stored c.loop-i.invariant))
+
+pub overflow_add-i : goal.overflow_add-i
+overflow_add-i c = omega arith
+
+pub loop-i-smaller : goal.loop-i-smaller
+loop-i-smaller c = omega arith
+
+pub loop-i-preserved : goal.loop-i-preserved
+loop-i-preserved c =
+    let loop = c.loop-i in
+    one-row-stored (λ j. refl) loop.invariant c.loop-i-test.true
+    (pair-stored loop.result loop.i c.entry.ensures c.entry-in-loop-i.ensures)
+
+pub shape_of-res : goal.shape_of-res
+shape_of-res c = length-stored c.loop-i.invariant
+
+pub returns : goal.returns
+returns c = all-rows-stored c.loop-i.invariant c.loop-i-test.false

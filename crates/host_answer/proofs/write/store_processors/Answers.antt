@@ -1,0 +1,44 @@
+-- `host_answer::write::store_processors` meets its contract.
+use mathlib.Core.Path.{refl}
+use Prim.Native.Nat.{◌-◌}
+use native.Mathlib.Omega.{arith}
+use Rattle.host_record.specs.Layout.{processor_row}
+use Rattle.base_lists.specs.Laws.Rows.{RowsStored, no-row-stored, length-stored, one-row-stored, all-rows-stored}
+use Rattle.host_answer.proofs.write.store_processors.Goals as goal
+
+pub loop-i-init : goal.loop-i-init
+loop-i-init c = no-row-stored
+
+pub offset_bounds-processors-i : goal.offset_bounds-processors-i
+offset_bounds-processors-i c = omega arith
+
+pub bounds-processors-i : goal.bounds-processors-i
+bounds-processors-i c = omega arith
+
+pub overflow_mul-i : goal.overflow_mul-i
+overflow_mul-i c = omega arith
+
+pub overflow_add-i : goal.overflow_add-i
+overflow_add-i c = omega arith
+
+pub store_processor_at-requires : goal.store_processor_at-requires
+store_processor_at-requires c = omega (arith, length-stored c.loop-i.invariant)
+
+pub overflow_add-i-in-loop-i : goal.overflow_add-i-in-loop-i
+overflow_add-i-in-loop-i c = omega arith
+
+pub loop-i-smaller : goal.loop-i-smaller
+loop-i-smaller c = omega arith
+
+pub loop-i-preserved : goal.loop-i-preserved
+loop-i-preserved c =
+    one-row-stored (λ j. refl)
+    c.loop-i.invariant
+    c.loop-i-test.true
+    c.store_processor_at.ensures
+
+pub shape_of-out : goal.shape_of-out
+shape_of-out c = length-stored c.loop-i.invariant
+
+pub returns : goal.returns
+returns c = all-rows-stored c.loop-i.invariant c.loop-i-test.false

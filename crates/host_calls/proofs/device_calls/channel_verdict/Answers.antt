@@ -1,0 +1,10 @@
+-- `host_calls::device_calls::channel_verdict` meets its contract.
+use borrow.Author.Rules.{rules}
+use Rattle.base_logic.specs.Laws.Tests.{holds, fails}
+use Rattle.host_calls.proofs.device_calls.channel_verdict.Goals as goal
+
+pub returns-then-not-channel_fits : goal.returns-then-not-channel_fits
+returns-then-not-channel_fits c = rw (fails c.channel_fits.ensures c.if-not-channel_fits.true)
+
+pub returns : goal.returns
+returns c = rw (holds c.channel_fits.ensures c.if-not-channel_fits.false)

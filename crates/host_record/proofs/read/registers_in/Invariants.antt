@@ -1,0 +1,13 @@
+-- `host_record::read::registers_in` meets its contract.
+use mathlib.Core.Path.{refl}
+use Prim.Native.Nat.{◌-◌}
+use native.Mathlib.Omega.{arith}
+use Rattle.host_record.specs.Layout.{register_in_numbers}
+use Rattle.base_lists.specs.Laws.Indexed.{Tabulated, none-tabulated, one-tabulated, all-tabulated}
+use Rattle.host_record.proofs.read.registers_in.Given as goal
+
+abbrev pub invariant-loop-i : goal.invariant-loop-i
+invariant-loop-i l = Tabulated (register_in_numbers l.r) 24 l.registers l.i
+
+abbrev pub decreases-loop-i : goal.decreases-loop-i
+decreases-loop-i l = 24 - l.i

@@ -1,0 +1,12 @@
+-- `peripheral_codes::constants::long_of` meets its contract.
+use borrow.Author.Rules.{rules}
+use Rattle.peripheral_codes.specs.Laws.Addresses.{constant-lt}
+use Rattle.peripheral_codes.proofs.constants.long_of.Goals as goal
+
+pub long_value-requires : goal.long_value-requires
+long_value-requires c =
+    let pre = c.requires in
+    (pre.1.1.0, (pre.1.0.a, rw c.constant-dm.ensures (constant-lt _ pre.0 _ _ pre.1.1.1)))
+
+pub returns : goal.returns
+returns c = rw (c.long_value.ensures, c.onward.ensures, c.constant-dm.ensures)

@@ -1,0 +1,6 @@
+-- `peripheral_io::channels::changed` meets its contract.
+use borrow.Author.Rules.{rules}
+use Rattle.peripheral_io.proofs.channels.changed.Goals as goal
+
+pub returns-in-To : goal.returns-in-To
+returns-in-To c = rw c.in-To.is

@@ -1,0 +1,6 @@
+-- `peripheral_machine::numbers::stop` meets its contract.
+use borrow.Author.Rules.{rules}
+use Rattle.peripheral_machine.proofs.numbers.stop.Goals as goal
+
+pub returns : goal.returns
+returns c = rw c.number.ensures

@@ -1,0 +1,33 @@
+-- `shared_fault::owners::first_not_apart` meets its contract.
+use Prim.Native.Nat.{◌-◌}
+use native.Mathlib.Omega.{arith}
+use lib.ListN.{length}
+use Rattle.base_lists.specs.Indexed.{all_below}
+use Rattle.base_lists.specs.Laws.Indexed.{Passed, none_yet, one_more}
+use Rattle.shared_schedule.specs.Refusals.{jobs_apart}
+use Rattle.base_logic.specs.Laws.Tests.{holds, fails}
+use Rattle.shared_fault.specs.Laws.Search.{found, none_found}
+use Rattle.shared_fault.proofs.owners.first_not_apart.Goals as goal
+
+pub loop-i-init : goal.loop-i-init
+loop-i-init c = none_yet _ _
+
+pub apart_from_all-requires : goal.apart_from_all-requires
+apart_from_all-requires c = (c.requires, c.loop-i-test.true)
+
+pub returns-then-not-apart_from_all : goal.returns-then-not-apart_from_all
+returns-then-not-apart_from_all c =
+    found _ _ _ c.loop-i.invariant c.loop-i-test.true (fails c.apart_from_all.ensures c.if-not-apart_from_all.true)
+
+pub overflow_add-i : goal.overflow_add-i
+overflow_add-i c = omega arith
+
+pub loop-i-smaller : goal.loop-i-smaller
+loop-i-smaller c = omega arith
+
+pub loop-i-preserved : goal.loop-i-preserved
+loop-i-preserved c =
+    one_more _ _ _ c.loop-i.invariant c.loop-i-test.true (holds c.apart_from_all.ensures c.if-not-apart_from_all.false)
+
+pub returns : goal.returns
+returns c = none_found _ _ _ c.loop-i.invariant c.loop-i-test.false

@@ -1,0 +1,18 @@
+-- `single_calls::program::overlap_verdict` meets its contract.
+use native.Mathlib.Omega.{arith}
+use borrow.Author.Rules.{rules}
+use Rattle.single_calls.specs.Program.{overlap_verdict}
+use Rattle.single_calls.proofs.program.overlap_verdict.Goals as goal
+
+pub shares_word-requires : goal.shares_word-requires
+shares_word-requires c =
+    let pre = c.requires in
+    rw c.load-c.ensures (omega (arith, pre.0.inside, pre.1), omega (arith, pre.0.field, pre.1))
+
+pub returns-then-shares_word : goal.returns-then-shares_word
+unfolding overlap_verdict
+returns-then-shares_word c = rw (← c.load-c.ensures, ← c.shares_word.ensures, c.if-shares_word.true)
+
+pub returns : goal.returns
+unfolding overlap_verdict
+returns c = rw (← c.load-c.ensures, ← c.shares_word.ensures, c.if-shares_word.false)

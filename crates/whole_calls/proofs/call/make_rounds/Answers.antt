@@ -1,0 +1,20 @@
+-- `whole_calls::call::make_rounds` meets its contract.
+use Rattle.peripheral_machine.specs.Machine.{machine}
+use Rattle.whole_calls.specs.Laws.Call.{run-ready, run-carried-out}
+use borrow.Author.Rules.{rules}
+use Rattle.whole_calls.proofs.call.make_rounds.Goals as goal
+
+pub run-made-requires : goal.run-made-requires
+run-made-requires c =
+    let args = c.args in
+    let pre = c.requires in
+    let Numbers-of = c.numbers_of-s in
+    run-ready _ _ args.r _ Numbers-of.ensures _ (pre) (search rules)
+
+pub returns : goal.returns
+returns c =
+    let args = c.args in
+    let Numbers-of = c.numbers_of-s in
+    let run = c.run-made in
+    let record_of = c.record_of-machine in
+    run-carried-out args.c.now args.m.now args.r _ Numbers-of.ensures _ (machine _ _ _ _) _ run.ensures _ record_of.ensures

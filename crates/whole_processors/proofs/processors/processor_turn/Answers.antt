@@ -1,0 +1,17 @@
+-- `whole_processors::processors::processor_turn` meets its contract.
+use Rattle.peripheral_machine.specs.Machine.{machine}
+use Rattle.whole_processors.specs.Laws.Processors.{lent-words, lent-kept, processor-is}
+use borrow.Author.Rules.{rules}
+use Rattle.whole_processors.proofs.processors.processor_turn.Goals as goal
+
+pub turn-requires : goal.turn-requires
+turn-requires c =
+    let args = c.args in
+    let pre = c.requires in
+    rw (lent-words args.n) (lent-kept _ _ (machine _ _ _ _) pre.1.0 pre.0, pre.1.1)
+
+pub returns : goal.returns
+returns c =
+    let args = c.args in
+    let turn = c.turn in
+    rw (lent-words args.n) (processor-is (machine _ _ _ _) _ (machine _ _ _ _) (rw (lent-words args.n) at turn.ensures))

@@ -1,0 +1,32 @@
+-- `whole_rounds::round::round` meets its contract.
+use Rattle.peripheral_machine.specs.Machine.{machine, central_side}
+use Rattle.whole_rounds.specs.Laws.Rounds.{all-ready, after_kept, clock-kept, round_is}
+use borrow.Author.Rules.{rules}
+use Rattle.whole_rounds.proofs.round.round.Goals as goal
+
+pub processors_turn-requires : goal.processors_turn-requires
+processors_turn-requires c =
+    let pre = c.requires in
+    all-ready _ pre.1.0 (machine _ _ _ _) pre.0
+
+pub central_turn-requires : goal.central_turn-requires
+central_turn-requires c =
+    let pre = c.requires in
+    let processors-turn = c.processors_turn in
+    let o = after_kept _ pre.1.0 (machine _ _ _ _) pre.0 (machine _ _ _ _) processors-turn.ensures in
+    (o.host, (o.count, pre.1.1))
+
+pub tick-requires : goal.tick-requires
+tick-requires c =
+    let pre = c.requires in
+    let processors-turn = c.processors_turn in
+    let central-turn = c.central_turn in
+    clock-kept _ pre.1.0 (machine _ _ _ _) pre.0 (machine _ _ _ _) processors-turn.ensures (central_side _ _ _) central-turn.ensures
+
+pub returns : goal.returns
+returns c =
+    let pre = c.requires in
+    let processors-turn = c.processors_turn in
+    let central-turn = c.central_turn in
+    let tick = c.tick in
+    round_is _ pre.1.0 (machine _ _ _ _) pre.0 (machine _ _ _ _) processors-turn.ensures (central_side _ _ _) central-turn.ensures _ tick.ensures

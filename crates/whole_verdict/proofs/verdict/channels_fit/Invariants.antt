@@ -1,0 +1,13 @@
+-- `whole_verdict::verdict::channels_fit` meets its contract.
+use Prim.Native.Nat.{◌-◌}
+use native.Mathlib.Omega.{arith}
+use Rattle.base_logic.specs.Laws.Tests.{holds, fails}
+use Rattle.base_lists.specs.Laws.Indexed.{Passed, none_yet, one_more, all-passed, one-fails}
+use Rattle.whole_record.specs.Record.{channel_fits_at, channels_fit}
+use Rattle.whole_verdict.proofs.verdict.channels_fit.Given as goal
+
+abbrev pub invariant-loop-i : goal.invariant-loop-i
+invariant-loop-i l = Passed (channel_fits_at l.channels) 12 l.i
+
+abbrev pub decreases-loop-i : goal.decreases-loop-i
+decreases-loop-i l = 12 - l.i

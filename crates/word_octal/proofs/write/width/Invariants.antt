@@ -1,0 +1,13 @@
+-- `word_octal::write::width` meets its contract.
+use mathlib.Core.Path.{◌≡◌, refl, ◌∙◌}
+use Prim.Native.Nat.{◌≤◌}
+use native.Mathlib.Omega.{arith}
+use Rattle.word_octal.specs.Write.{width_in}
+use Rattle.word_octal.specs.Laws.Write.{width-found, width-below, width-last}
+use Rattle.word_octal.proofs.write.width.Given as goal
+
+abbrev pub invariant-loop-k : goal.invariant-loop-k
+invariant-loop-k l = (l.k ≤ 21) × (width_in l.k l.v ≡ width_in 21 l.v)
+
+abbrev pub decreases-loop-k : goal.decreases-loop-k
+decreases-loop-k l = l.k
