@@ -75,6 +75,13 @@ class Names:
             at = p[1]
         return None
 
+    def callee(self, goal):
+        """The function whose call a goal is the requires of."""
+        for p in self.places.values():
+            if p[2][1] + "-requires" == goal:
+                return p[3]
+        return None
+
     def under(self, low, high):
         while low:
             if low == high:
@@ -83,10 +90,87 @@ class Names:
         return False
 
 
+def clauses():
+    """The names of the requires of each function that has several, by crate::module::function (an impl's type left out)."""
+    found = {}
+    for path in sorted(Path("crates").glob("*/src/*.rt")):
+        crate, module = path.parts[1], path.stem
+        inside = None
+        for line in path.read_text().split("\n"):
+            m = re.match(r"\s*(?:pub(?:\([a-z]+\))? )?fn (\w+)", line)
+            if m:
+                inside = "::".join([crate] + ([module] if module not in ("lib", "main") else []) + [m.group(1)])
+            m = re.match(r"\s*requires (\w+) \{", line)
+            if m and inside:
+                found.setdefault(inside, []).append(m.group(1))
+    return found
+
+
+CLAUSES = clauses()
 START = ("args", "requires", "ranges", "well_formed", "type_inv")
 
 
-def turn_paths(body, names, place, where):
+def clause_path(function, path):
+    """Of `c.requires` what is now said by a clause's name: the older form nested the clauses to the right."""
+    names = CLAUSES.get(function, [])
+    if len(names) < 2 or not path:
+        return path
+    i, rest = 0, list(path)
+    while i < len(names) - 1 and rest and rest[0] == "1":
+        i += 1
+        rest.pop(0)
+    if i < len(names) - 1:
+        if not rest or rest[0] != "0":
+            print(f"{function}: requires.{'.'.join(path)}")
+            return path
+        rest.pop(0)
+    return [names[i]] + rest
+
+
+def by_clauses(text, callee):
+    """A tuple for what a call requires, by the names of its clauses."""
+    names = CLAUSES.get(callee, [])
+    flat = text.strip()
+    if len(names) < 2 or not (flat.startswith("(") and flat.endswith(")")):
+        return text
+    depth, parts, word = 0, [], ""
+    for ch in flat[1:-1]:
+        depth += (ch in "([{") - (ch in ")]}")
+        if depth < 0:
+            return text
+        if ch == "," and depth == 0:
+            parts.append(word.strip())
+            word = ""
+        else:
+            word += ch
+    parts.append(word.strip())
+    while len(parts) < len(names) and parts[-1].startswith("(") and parts[-1].endswith(")"):
+        inner = by_comma(parts[-1][1:-1])
+        if len(inner) < 2:
+            break
+        parts[-1:] = inner
+    if len(parts) != len(names):
+        return text
+    return " record { " + "; ".join(f"{n} = {v}" for n, v in zip(names, parts)) + " }"
+
+
+def by_comma(text):
+    depth, parts, word = 0, [], ""
+    for ch in text:
+        depth += (ch in "([{") - (ch in ")]}")
+        if ch == "," and depth == 0:
+            parts.append(word.strip())
+            word = ""
+        else:
+            word += ch
+    return parts + [word.strip()]
+
+
+def turn_paths(body, names, place, where, function):
+    # a `let` of the record at an earlier place stands on a line of its own
+    body = re.sub(r"(?<=\S)( let " + IDENT + r" = " + IDENT + r"(?:\.before)* in) (?=\S)", r"\n\1\n", body)
+    body = re.sub(r"^( *let " + IDENT + r" = " + IDENT + r"(?:\.before)* in) (?=\S)", r"\1\n", body)
+    body = re.sub(r"last_arm (\d+) (\S+) \(search rules\) [\w.-]+\.rest", r"(let last : \2 ≡ \1 = omega arith in last)", body)
     alias = {"c": place}
     out = []
     lines = body
@@ -103,7 +187,8 @@ def turn_paths(body, names, place, where):
         if not comps:
             return "c", at
         if plain(comps[0]) in START:
-            return ".".join(["c", plain(comps[0])] + comps[1:]), None
+            rest = clause_path(function, comps[1:]) if comps[0] == "requires" else comps[1:]
+            return ".".join(["c", plain(comps[0])] + rest), None
         got = names.step(at, comps[0], comps[1:]) or names.step(place, comps[0], comps[1:])
         for other in names.places:
             got = got or names.step(other, comps[0], comps[1:])
@@ -121,7 +206,7 @@ def turn_paths(body, names, place, where):
 
     result = []
     for line in lines.split("\n"):
-        m = re.match(r"^(\s*)let (" + IDENT + r") = (" + IDENT + r")((?:\.before)*) in$", line)
+        m = re.match(r"^(\s*)let (" + IDENT + r") = (" + IDENT + r")((?:\.before)*) in$", line.rstrip())
         if m and m.group(3) in alias:
             _, at = resolve(m.group(3), [w for w in m.group(4).split(".") if w])
             alias[m.group(2)] = at
@@ -138,6 +223,7 @@ def convert(path, lts, crate, function):
     text = path.read_text()
     names = Names(lts)
     where = str(path.parent.relative_to("crates"))
+    rust = crate + "::" + function.replace(".", "::")
     uses = [u for u in imports_of(text) if ".Statement.{" not in u and not u.endswith(" as tie")]
     head = "\n".join(l for l in text.split("\n")[:3] if l.startswith("-- "))
     body = "\n".join(l for l in text.split("\n") if not l.startswith("use "))
@@ -186,7 +272,7 @@ def convert(path, lts, crate, function):
             continue
         m = re.fullmatch(r"\(λ c(?: κs)?\. (.*)\)", flat)
         if m:
-            text_of_goals.append(f"pub {new} : goal.{new}\n{new} c = {turn_paths(m.group(1), names, at, where)}")
+            text_of_goals.append(f"pub {new} : goal.{new}\n{new} c = {by_clauses(turn_paths(m.group(1), names, at, where, rust), names.callee(new))}")
             continue
         if a not in decls:
             print(f"{where}: the answer {a} of {new} is not a declaration here")
@@ -202,7 +288,7 @@ def convert(path, lts, crate, function):
         eq = re.sub(rf"^{re.escape(a)}", new, eq)
         eq = re.sub(rf"^{re.escape(new)} c κs ", f"{new} c ", eq)
         headline, rest = eq.split("=", 1)
-        out.append(headline + "=" + turn_paths(rest, names, at, where))
+        out.append(headline + "=" + by_clauses(turn_paths(rest, names, at, where, rust), names.callee(new)))
         text_of_goals.append("\n".join(out))
     lemmas = ["\n".join(decls[n][0] + decls[n][1]) for n in order if n not in goal_decls and n not in loops]
     module = f"Rattle.{crate}.proofs.{function}"

@@ -18,13 +18,13 @@ set_a-requires c =
     ((subst CentralSound e4.given.1 pre.1).0, pre.0)
 
 pub set_b-requires : goal.set_b-requires
-set_b-requires c = (subst CentralSound c.in-SetB.is c.requires.1).0
+set_b-requires c = (subst CentralSound c.in-SetB.is c.requires.central_sound).0
 
 pub set_x-requires : goal.set_x-requires
-set_x-requires c = (subst CentralSound c.in-SetX.is c.requires.1).0
+set_x-requires c = (subst CentralSound c.in-SetX.is c.requires.central_sound).0
 
 pub set_x-requires-in-SetXB : goal.set_x-requires-in-SetXB
-set_x-requires-in-SetXB c = (subst CentralSound c.in-SetXB.is c.requires.1).0.0
+set_x-requires-in-SetXB c = (subst CentralSound c.in-SetXB.is c.requires.central_sound).0.0
 
 pub set_b-requires-in-SetXB : goal.set_b-requires-in-SetXB
 set_b-requires-in-SetXB c =

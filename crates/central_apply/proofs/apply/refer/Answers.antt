@@ -9,7 +9,7 @@ use Rattle.central_field.specs.declared.address.Place.{Place}
 use Rattle.central_apply.proofs.apply.refer.Goals as goal
 
 pub index-n-requires : goal.index-n-requires
-index-n-requires c = subst (λ (p : Place). Within c.args.b p) c.in-Inside.is c.requires.1.1
+index-n-requires c = subst (λ (p : Place). Within c.args.b p) c.in-Inside.is c.requires.within
 
 pub returns-then-b-eq1 : goal.returns-then-b-eq1
 unfolding referred

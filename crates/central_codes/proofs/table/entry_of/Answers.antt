@@ -5,4 +5,4 @@ use Rattle.central_codes.specs.Laws.Table.{rule-at}
 use Rattle.central_codes.proofs.table.entry_of.Goals as goal
 
 pub returns : goal.returns
-returns c = c.widened.ensures ∙ rule-at _ _ c.requires.0 c.requires.1
+returns c = c.widened.ensures ∙ rule-at _ _ c.requires.t_value c.requires.n_bound

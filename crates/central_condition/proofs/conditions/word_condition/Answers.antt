@@ -34,4 +34,4 @@ returns-in-6 c = rw (c.in-6.is, c.is_indefinite.ensures)
 
 pub returns-in_default : goal.returns-in_default
 unfolding word_condition
-returns-in_default c = rw (last_arm 7 c.args.i (search rules) c.in_default.rest, c.is_indefinite-in_default.ensures)
+returns-in_default c = rw ((let last : c.args.i ≡ 7 = omega arith in last), c.is_indefinite-in_default.ensures)

@@ -63,4 +63,4 @@ returns-in_default c =
     let match = c.in_default in
     let x-of = c.x_of-xj in
     let x-of2 = c.x_of-xk in
-    rw (last_arm 7 _ (search rules) match.rest, c.difference60.ensures, x-of.ensures.is, x-of2.ensures.is)
+    rw ((let last : _ ≡ 7 = omega arith in last), c.difference60.ensures, x-of.ensures.is, x-of2.ensures.is)

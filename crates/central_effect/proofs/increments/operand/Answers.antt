@@ -47,4 +47,4 @@ returns-in_default c =
     let match = c.in_default in
     let b-of7 = c.b_of-in_default in
     let b-of8 = c.b_of-in_default-2 in
-    rw (last_arm 7 _ (search rules) match.rest, c.difference18-in_default.ensures, b-of8.ensures.is, b-of7.ensures.is)
+    rw ((let last : _ ≡ 7 = omega arith in last), c.difference18-in_default.ensures, b-of8.ensures.is, b-of7.ensures.is)

@@ -46,4 +46,4 @@ returns-in_default c =
     let match = c.in_default in
     let b-of3 = c.b_of-in_default in
     let x-of7 = c.x_of-in_default in
-    rw (last_arm 7 _ (search rules) match.rest, c.pack.ensures, b-of3.ensures.is, x-of7.ensures.is)
+    rw ((let last : _ ≡ 7 = omega arith in last), c.pack.ensures, b-of3.ensures.is, x-of7.ensures.is)

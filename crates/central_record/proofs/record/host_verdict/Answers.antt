@@ -1,4 +1,5 @@
 -- `central_record::record::host_verdict` meets its contract.
+use Rattle.std.proofs.Common.{sym, ◌∙◌}
 use Rattle.base_logic.specs.Laws.Tests.{holds, fails}
 use Rattle.central_record.specs.Record.{host_verdict}
 use borrow.Author.Rules.{rules}
@@ -6,16 +7,16 @@ use Rattle.central_record.proofs.record.host_verdict.Goals as goal
 
 pub returns-then-not-length_fits : goal.returns-then-not-length_fits
 unfolding host_verdict
-returns-then-not-length_fits c = rw (fails c.length_fits.ensures c.if-not-length_fits.true)
+returns-then-not-length_fits c = rw (sym c.length_fits.ensures ∙ c.if-not-length_fits.true)
 
 pub returns-then-not-words_fit : goal.returns-then-not-words_fit
 unfolding host_verdict
-returns-then-not-words_fit c = rw (holds c.length_fits.ensures c.if-not-length_fits.false, fails c.words_fit.ensures c.if-not-words_fit.true)
+returns-then-not-words_fit c = rw (sym c.length_fits.ensures ∙ c.if-not-length_fits.false, sym c.words_fit.ensures ∙ c.if-not-words_fit.true)
 
 pub returns-then-not-record_fits : goal.returns-then-not-record_fits
 unfolding host_verdict
-returns-then-not-record_fits c = rw (holds c.length_fits.ensures c.if-not-length_fits.false, holds c.words_fit.ensures c.if-not-words_fit.false, fails c.record_fits.ensures c.if-not-record_fits.true)
+returns-then-not-record_fits c = rw (sym c.length_fits.ensures ∙ c.if-not-length_fits.false, sym c.words_fit.ensures ∙ c.if-not-words_fit.false, sym c.record_fits.ensures ∙ c.if-not-record_fits.true)
 
 pub returns : goal.returns
 unfolding host_verdict
-returns c = rw (holds c.length_fits.ensures c.if-not-length_fits.false, holds c.words_fit.ensures c.if-not-words_fit.false, holds c.record_fits.ensures c.if-not-record_fits.false)
+returns c = rw (sym c.length_fits.ensures ∙ c.if-not-length_fits.false, sym c.words_fit.ensures ∙ c.if-not-words_fit.false, sym c.record_fits.ensures ∙ c.if-not-record_fits.false)

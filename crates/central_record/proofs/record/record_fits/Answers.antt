@@ -48,7 +48,7 @@ returns-then-not-stop_listed c =
       lt-ltb t.ra (2 ^ 18) (omega arith),
       lt-ltb t.fl (2 ^ 18) (omega arith),
       le-leb (t.ra + t.fl) n (omega arith),
-      fails c.stop_listed.ensures c.if-not-stop_listed.true,
+      sym c.stop_listed.ensures ∙ c.if-not-stop_listed.true,
     )
 
 pub returns-then-b0-ne0 : goal.returns-then-b0-ne0
@@ -61,7 +61,7 @@ returns-then-b0-ne0 c =
       lt-ltb t.ra (2 ^ 18) (omega arith),
       lt-ltb t.fl (2 ^ 18) (omega arith),
       le-leb (t.ra + t.fl) n (omega arith),
-      holds c.stop_listed.ensures c.if-not-stop_listed.false,
+      sym c.stop_listed.ensures ∙ c.if-not-stop_listed.false,
       ne_eqb _ 0 c.if-b0-ne0.true,
     )
 
@@ -75,7 +75,7 @@ returns-then-em_fits c =
       lt-ltb t.ra (2 ^ 18) (omega arith),
       lt-ltb t.fl (2 ^ 18) (omega arith),
       le-leb (t.ra + t.fl) n (omega arith),
-      holds c.stop_listed.ensures c.if-not-stop_listed.false,
+      sym c.stop_listed.ensures ∙ c.if-not-stop_listed.false,
       eq-eqb _ _ c.if-b0-ne0.false,
       sym c.em_fits.ensures ∙ c.if-em_fits.true,
     )
@@ -91,7 +91,7 @@ returns c =
       lt-ltb t.ra (2 ^ 18) (omega arith),
       lt-ltb t.fl (2 ^ 18) (omega arith),
       le-leb (t.ra + t.fl) n (omega arith),
-      holds c.stop_listed.ensures c.if-not-stop_listed.false,
+      sym c.stop_listed.ensures ∙ c.if-not-stop_listed.false,
       eq-eqb _ _ c.if-b0-ne0.false,
       sym c.em_fits.ensures ∙ c.if-em_fits.false,
     )

@@ -5,4 +5,4 @@ use borrow.Author.Rules.{rules}
 use Rattle.central_registers.proofs.registers.a_of.Goals as goal
 
 pub returns : goal.returns
-returns c = record { is = refl; small = c.requires.1.short c.args.i (omega arith) }
+returns c = record { is = refl; small = c.requires.wide.short c.args.i (omega arith) }

@@ -6,4 +6,4 @@ use borrow.Author.Rules.{rules}
 use Rattle.central_registers.proofs.registers.b_of.Goals as goal
 
 pub returns : goal.returns
-returns c = record { is = refl; small = c.requires.1.short (8 + c.args.i) (omega arith) }
+returns c = record { is = refl; small = c.requires.wide.short (8 + c.args.i) (omega arith) }

@@ -5,4 +5,4 @@ use borrow.Author.Rules.{rules}
 use Rattle.central_registers.proofs.registers.x_of.Goals as goal
 
 pub returns : goal.returns
-returns c = record { is = refl; small = c.requires.1.long (16 + c.args.i) }
+returns c = record { is = refl; small = c.requires.wide.long (16 + c.args.i) }

@@ -8,7 +8,7 @@ use Rattle.central_turn.specs.Laws.Remaining.{entry-at-top, ran-unfit, ran-cut, 
 use Rattle.central_turn.proofs.step.step.Goals as goal
 
 pub entry_of-entry-requires : goal.entry_of-entry-requires
-entry_of-entry-requires c = (c.requires.1.1.0, shr_lt 9 55 (omega arith))
+entry_of-entry-requires c = record { t_value = c.requires.t_value; n_bound = shr_lt 9 55 (omega arith) }
 
 pub returns-then-entry-ge-UNFIT : goal.returns-then-entry-ge-UNFIT
 returns-then-entry-ge-UNFIT c =

@@ -7,7 +7,7 @@ use Rattle.central_turn.specs.Laws.Shifted.{Shifted, shifted_start, shifted-on, 
 use Rattle.central_turn.proofs.turn.run_word.Goals as goal
 
 pub loop-remaining-init : goal.loop-remaining-init
-loop-remaining-init c = shifted_start _ _ _ _ c.requires.0
+loop-remaining-init c = shifted_start _ _ _ _ c.requires.state_kept
 
 pub step-requires : goal.step-requires
 step-requires c =
@@ -88,7 +88,7 @@ pub overflow_add-result : goal.overflow_add-result
 overflow_add-result c = omega (arith, c.requires.1)
 
 pub shape_of-f : goal.shape_of-f
-shape_of-f c = c.loop-remaining.invariant.going.kept.size ∙ sym c.requires.0.size
+shape_of-f c = c.loop-remaining.invariant.going.kept.size ∙ sym c.requires.state_kept.size
 
 pub returns : goal.returns
 returns c =

@@ -6,7 +6,7 @@ use Rattle.central_turn.specs.Laws.Run.{RunGoing, run-going-start, run-going-on,
 use Rattle.central_turn.proofs.turn.turns.Goals as goal
 
 pub loop-left-init : goal.loop-left-init
-loop-left-init c = run-going-start _ _ _ _ c.requires.1.1.1 c.requires.0
+loop-left-init c = run-going-start _ _ _ _ c.requires.p_bound c.requires.state_kept
 
 pub turn-e-requires : goal.turn-e-requires
 turn-e-requires c =
@@ -49,7 +49,7 @@ loop-left-preserved c =
     run-going-on _ (omega (arith, pre.1.0)) _ _ _ _ _ _ loop.invariant loop-test.true _ turn.ensures if1.false
 
 pub shape_of-f : goal.shape_of-f
-shape_of-f c = c.loop-left.invariant.kept.size ∙ sym c.requires.0.size
+shape_of-f c = c.loop-left.invariant.kept.size ∙ sym c.requires.state_kept.size
 
 pub returns : goal.returns
 returns c =

@@ -43,7 +43,7 @@ pub loop-i-preserved : goal.loop-i-preserved
 loop-i-preserved c =
     let inv = c.loop-i.invariant in
     let more = c.loop-i-test.true in
-    let pre = c.requires.0 in
+    let pre = c.requires.jobs_in_bounds in
     let stint = c.write_stint-next.ensures in (
       room_next inv.0 more stint (length-stint _ _ _ _),
       writing-next inv.1 (stints-next _ _ _ _ more pre.0 pre.1) stint,

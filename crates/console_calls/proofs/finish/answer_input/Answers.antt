@@ -17,7 +17,7 @@ write_refused-n-requires c = omega arith
 pub returns-then-not-is_complete : goal.returns-then-not-is_complete
 returns-then-not-is_complete c =
     let pre = c.requires in
-    finish-unreadable _ _ (sym (complete-is _ _ _ pre) ∙ fails c.is_complete.ensures c.if-not-is_complete.true) c.number.ensures
+    finish-unreadable _ _ (sym (complete-is _ _ _ pre) ∙ sym c.is_complete.ensures ∙ c.if-not-is_complete.true) c.number.ensures
     (omega (arith, c.if-out-lt-OUTPUT_BYTES.false)) c.write_refused-n.ensures
 
 pub slice_bounds-run-end : goal.slice_bounds-run-end
@@ -52,5 +52,5 @@ run-n-requires c =
 
 pub returns : goal.returns
 returns c =
-    finish-run _ _ _ c.requires (holds c.is_complete.ensures c.if-not-is_complete.false) (omega (arith, c.if-out-lt-OUTPUT_BYTES.false))
+    finish-run _ _ _ c.requires (sym c.is_complete.ensures ∙ c.if-not-is_complete.false) (omega (arith, c.if-out-lt-OUTPUT_BYTES.false))
     c.run-n.ensures

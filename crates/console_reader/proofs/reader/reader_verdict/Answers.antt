@@ -1,4 +1,5 @@
 -- `console_reader::reader::reader_verdict` meets its contract.
+use Rattle.std.proofs.Common.{sym, ◌∙◌}
 use borrow.Author.Rules.{rules}
 use borrow.Author.Tests.{eq-eqb, ne_eqb}
 use Rattle.base_logic.specs.Laws.Tests.{holds, fails}
@@ -11,14 +12,14 @@ returns-then-memory-ne-MEMORY_WORDS c = rw (ne_eqb _ 4096 c.if-memory-ne-MEMORY_
 
 pub returns-then-not-reader_fits : goal.returns-then-not-reader_fits
 unfolding reader_verdict
-returns-then-not-reader_fits c = rw (eq-eqb _ 4096 c.if-memory-ne-MEMORY_WORDS.false, fails c.reader_fits.ensures c.if-not-reader_fits.true)
+returns-then-not-reader_fits c = rw (eq-eqb _ 4096 c.if-memory-ne-MEMORY_WORDS.false, sym c.reader_fits.ensures ∙ c.if-not-reader_fits.true)
 
 pub returns-then-not-lists_long : goal.returns-then-not-lists_long
 unfolding reader_verdict
 returns-then-not-lists_long c =
-    rw (eq-eqb _ 4096 c.if-memory-ne-MEMORY_WORDS.false, holds c.reader_fits.ensures c.if-not-reader_fits.false, fails c.lists_long.ensures c.if-not-lists_long.true)
+    rw (eq-eqb _ 4096 c.if-memory-ne-MEMORY_WORDS.false, sym c.reader_fits.ensures ∙ c.if-not-reader_fits.false, sym c.lists_long.ensures ∙ c.if-not-lists_long.true)
 
 pub returns : goal.returns
 unfolding reader_verdict
 returns c =
-    rw (eq-eqb _ 4096 c.if-memory-ne-MEMORY_WORDS.false, holds c.reader_fits.ensures c.if-not-reader_fits.false, holds c.lists_long.ensures c.if-not-lists_long.false)
+    rw (eq-eqb _ 4096 c.if-memory-ne-MEMORY_WORDS.false, sym c.reader_fits.ensures ∙ c.if-not-reader_fits.false, sym c.lists_long.ensures ∙ c.if-not-lists_long.false)

@@ -32,7 +32,7 @@ returns-then-not-field_inside c =
     rw (
       sym c.package_is_inside.ensures ∙ c.if-package_is_inside.true,
       sym c.has_stray.ensures ∙ c.if-has_stray.false,
-      fails c.field_inside.ensures c.if-not-field_inside.true,
+      sym c.field_inside.ensures ∙ c.if-not-field_inside.true,
     )
 
 pub returns-then-package_is_inside : goal.returns-then-package_is_inside
@@ -41,7 +41,7 @@ returns-then-package_is_inside c =
     rw (
       sym c.package_is_inside.ensures ∙ c.if-package_is_inside.true,
       sym c.has_stray.ensures ∙ c.if-has_stray.false,
-      holds c.field_inside.ensures c.if-not-field_inside.false,
+      sym c.field_inside.ensures ∙ c.if-not-field_inside.false,
     )
 
 pub returns : goal.returns

@@ -4,7 +4,7 @@ use Rattle.base_logic.specs.Laws.Tests.{holds, fails}
 use Rattle.host_calls.proofs.device_calls.channel_verdict.Goals as goal
 
 pub returns-then-not-channel_fits : goal.returns-then-not-channel_fits
-returns-then-not-channel_fits c = rw (fails c.channel_fits.ensures c.if-not-channel_fits.true)
+returns-then-not-channel_fits c = rw (sym c.channel_fits.ensures ∙ c.if-not-channel_fits.true)
 
 pub returns : goal.returns
-returns c = rw (holds c.channel_fits.ensures c.if-not-channel_fits.false)
+returns c = rw (sym c.channel_fits.ensures ∙ c.if-not-channel_fits.false)

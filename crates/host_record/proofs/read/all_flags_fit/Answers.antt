@@ -25,7 +25,7 @@ returns-then-not-flags_fit c =
     let loop = c.loop-i in
     let loop-test = c.loop-i-test in
     let flags-fit = c.flags_fit in
-    one-fails (flags_fit_in_machine args.r.now) 12 loop.i loop-test.true (fails flags-fit.ensures c.if-not-flags_fit.true)
+    one-fails (flags_fit_in_machine args.r.now) 12 loop.i loop-test.true (sym flags-fit.ensures ∙ c.if-not-flags_fit.true)
 
 pub overflow_add-i-in-loop-i : goal.overflow_add-i-in-loop-i
 overflow_add-i-in-loop-i c = omega arith
@@ -39,7 +39,7 @@ loop-i-preserved c =
     let loop = c.loop-i in
     let loop-test = c.loop-i-test in
     let flags-fit = c.flags_fit in
-    one_more (flags_fit_in_machine args.r.now) 12 loop.i loop.invariant loop-test.true (holds flags-fit.ensures c.if-not-flags_fit.false)
+    one_more (flags_fit_in_machine args.r.now) 12 loop.i loop.invariant loop-test.true (sym flags-fit.ensures ∙ c.if-not-flags_fit.false)
 
 pub returns : goal.returns
 unfolding all_flags_fit

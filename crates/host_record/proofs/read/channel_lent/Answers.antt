@@ -1,4 +1,5 @@
 -- `host_record::read::channel_lent` meets its contract.
+use Rattle.std.proofs.Common.{sym, ◌∙◌}
 use borrow.Author.Tests.{eq-eqb, ne_eqb}
 use borrow.Author.Rules.{rules}
 use lib.ListN.{length}
@@ -20,7 +21,7 @@ returns-then-not-flags_fit c =
     let if1 = c.if-r-ne4 in
     let flags-fit = c.flags_fit in
     let if2 = c.if-not-flags_fit in
-    rw (eq-eqb (length args.r.now) 4 if1.false, fails flags-fit.ensures if2.true) c.refused_channel-then-not-flags_fit.ensures
+    rw (eq-eqb (length args.r.now) 4 if1.false, sym flags-fit.ensures ∙ if2.true) c.refused_channel-then-not-flags_fit.ensures
 
 pub returns : goal.returns
 unfolding channel_lent
@@ -29,4 +30,4 @@ returns c =
     let if1 = c.if-r-ne4 in
     let flags-fit = c.flags_fit in
     let if2 = c.if-not-flags_fit in
-    rw (eq-eqb (length args.r.now) 4 if1.false, holds flags-fit.ensures if2.false) c.channel_in.ensures
+    rw (eq-eqb (length args.r.now) 4 if1.false, sym flags-fit.ensures ∙ if2.false) c.channel_in.ensures

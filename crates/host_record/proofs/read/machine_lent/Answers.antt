@@ -1,4 +1,5 @@
 -- `host_record::read::machine_lent` meets its contract.
+use Rattle.std.proofs.Common.{sym, ◌∙◌}
 use borrow.Author.Tests.{eq-eqb, ne_eqb}
 use borrow.Author.Rules.{rules}
 use lib.ListN.{length}
@@ -20,7 +21,7 @@ returns-then-not-all_flags_fit c =
     let if1 = c.if-r-ne108 in
     let all-flags-fit = c.all_flags_fit in
     let if2 = c.if-not-all_flags_fit in
-    rw (eq-eqb (length args.r.now) 108 if1.false, fails all-flags-fit.ensures if2.true) c.refused_machine-then-not-all_flags_fit.ensures
+    rw (eq-eqb (length args.r.now) 108 if1.false, sym all-flags-fit.ensures ∙ if2.true) c.refused_machine-then-not-all_flags_fit.ensures
 
 pub returns : goal.returns
 unfolding machine_lent
@@ -29,4 +30,4 @@ returns c =
     let if1 = c.if-r-ne108 in
     let all-flags-fit = c.all_flags_fit in
     let if2 = c.if-not-all_flags_fit in
-    rw (eq-eqb (length args.r.now) 108 if1.false, holds all-flags-fit.ensures if2.false) c.machine_in.ensures
+    rw (eq-eqb (length args.r.now) 108 if1.false, sym all-flags-fit.ensures ∙ if2.false) c.machine_in.ensures

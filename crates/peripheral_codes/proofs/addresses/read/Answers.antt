@@ -5,7 +5,7 @@ use borrow.Author.Rules.{rules}
 use Rattle.peripheral_codes.proofs.addresses.read.Goals as goal
 
 pub overflow_cast-result : goal.overflow_cast-result
-overflow_cast-result c = omega (arith, c.requires.0.short.word c.args.at)
+overflow_cast-result c = omega (arith, c.requires.memory.short.word c.args.at)
 
 pub returns : goal.returns
-returns c = record { is = refl; short = c.requires.0.short.word c.args.at }
+returns c = record { is = refl; short = c.requires.memory.short.word c.args.at }

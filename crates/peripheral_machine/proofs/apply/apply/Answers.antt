@@ -7,10 +7,10 @@ use Rattle.peripheral_machine.specs.Widths.{PeripheralSound}
 use Rattle.peripheral_machine.proofs.apply.apply.Goals as goal
 
 pub overflow_cast-m : goal.overflow_cast-m
-overflow_cast-m c = record { fits = omega (arith, (subst (PeripheralSound _) c.in-Store.is c.requires.1.1.1).1.1) }
+overflow_cast-m c = record { fits = omega (arith, (subst (PeripheralSound _) c.in-Store.is c.requires.peripheral_sound).1.1) }
 
 pub offset_bounds-m-at : goal.offset_bounds-m-at
-offset_bounds-m-at c = omega (arith, (subst (PeripheralSound _) c.in-Store.is c.requires.1.1.1).1.0)
+offset_bounds-m-at c = omega (arith, (subst (PeripheralSound _) c.in-Store.is c.requires.peripheral_sound).1.0)
 
 pub bounds-m-at : goal.bounds-m-at
 bounds-m-at c =
@@ -24,13 +24,13 @@ set_parts-requires c =
     omega (arith, (subst (PeripheralSound _) e3.given.1 pre.1.1.1).1, pre.0)
 
 pub offset_bounds-c-at : goal.offset_bounds-c-at
-offset_bounds-c-at c = let h = (subst (PeripheralSound _) c.in-WriteCentral.is c.requires.1.1.1).1.0 in search rules
+offset_bounds-c-at c = let h = (subst (PeripheralSound _) c.in-WriteCentral.is c.requires.peripheral_sound).1.0 in search rules
 
 pub bounds-c-at : goal.bounds-c-at
-bounds-c-at c = (subst (PeripheralSound _) c.in-WriteCentral.is c.requires.1.1.1).1.0
+bounds-c-at c = (subst (PeripheralSound _) c.in-WriteCentral.is c.requires.peripheral_sound).1.0
 
 pub set_channel-requires : goal.set_channel-requires
-set_channel-requires c = (subst (PeripheralSound _) c.in-SetChannel.is c.requires.1.1.1).1.0
+set_channel-requires c = (subst (PeripheralSound _) c.in-SetChannel.is c.requires.peripheral_sound).1.0
 
 pub exchange_at-requires : goal.exchange_at-requires
 exchange_at-requires c =

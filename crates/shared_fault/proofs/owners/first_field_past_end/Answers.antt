@@ -19,7 +19,7 @@ field_inside-requires c =
 
 pub returns-then-not-field_inside : goal.returns-then-not-field_inside
 returns-then-not-field_inside c =
-    found _ _ _ c.loop-i.invariant c.loop-i-test.true (fails c.field_inside.ensures c.if-not-field_inside.true)
+    found _ _ _ c.loop-i.invariant c.loop-i-test.true (sym c.field_inside.ensures ∙ c.if-not-field_inside.true)
 
 pub overflow_add-i : goal.overflow_add-i
 overflow_add-i c = omega arith
@@ -29,7 +29,7 @@ loop-i-smaller c = omega arith
 
 pub loop-i-preserved : goal.loop-i-preserved
 loop-i-preserved c =
-    one_more _ _ _ c.loop-i.invariant c.loop-i-test.true (holds c.field_inside.ensures c.if-not-field_inside.false)
+    one_more _ _ _ c.loop-i.invariant c.loop-i-test.true (sym c.field_inside.ensures ∙ c.if-not-field_inside.false)
 
 pub returns : goal.returns
 returns c = none_found _ _ _ c.loop-i.invariant c.loop-i-test.false

@@ -13,11 +13,11 @@ pub loop-i-init : goal.loop-i-init
 loop-i-init c = none_yet _ _
 
 pub apart_from_all-requires : goal.apart_from_all-requires
-apart_from_all-requires c = (c.requires, c.loop-i-test.true)
+apart_from_all-requires c = record { inside = c.requires; i_in_bounds = c.loop-i-test.true }
 
 pub returns-then-not-apart_from_all : goal.returns-then-not-apart_from_all
 returns-then-not-apart_from_all c =
-    found _ _ _ c.loop-i.invariant c.loop-i-test.true (fails c.apart_from_all.ensures c.if-not-apart_from_all.true)
+    found _ _ _ c.loop-i.invariant c.loop-i-test.true (sym c.apart_from_all.ensures ∙ c.if-not-apart_from_all.true)
 
 pub overflow_add-i : goal.overflow_add-i
 overflow_add-i c = omega arith
@@ -27,7 +27,7 @@ loop-i-smaller c = omega arith
 
 pub loop-i-preserved : goal.loop-i-preserved
 loop-i-preserved c =
-    one_more _ _ _ c.loop-i.invariant c.loop-i-test.true (holds c.apart_from_all.ensures c.if-not-apart_from_all.false)
+    one_more _ _ _ c.loop-i.invariant c.loop-i-test.true (sym c.apart_from_all.ensures ∙ c.if-not-apart_from_all.false)
 
 pub returns : goal.returns
 returns c = none_found _ _ _ c.loop-i.invariant c.loop-i-test.false

@@ -15,7 +15,7 @@ loop-i-init c = none_yet _ _
 pub returns-then-not-package_is_inside : goal.returns-then-not-package_is_inside
 unfolding package_inside
 returns-then-not-package_is_inside c =
-    found _ _ _ c.loop-i.invariant c.loop-i-test.true (fails c.package_is_inside.ensures c.if-not-package_is_inside.true)
+    found _ _ _ c.loop-i.invariant c.loop-i-test.true (sym c.package_is_inside.ensures ∙ c.if-not-package_is_inside.true)
 
 pub overflow_add-i : goal.overflow_add-i
 overflow_add-i c = omega arith
@@ -26,7 +26,7 @@ loop-i-smaller c = omega arith
 pub loop-i-preserved : goal.loop-i-preserved
 unfolding package_inside
 loop-i-preserved c =
-    one_more _ _ _ c.loop-i.invariant c.loop-i-test.true (holds c.package_is_inside.ensures c.if-not-package_is_inside.false)
+    one_more _ _ _ c.loop-i.invariant c.loop-i-test.true (sym c.package_is_inside.ensures ∙ c.if-not-package_is_inside.false)
 
 pub returns : goal.returns
 returns c = none_found _ _ _ c.loop-i.invariant c.loop-i-test.false

@@ -6,7 +6,7 @@ use Rattle.shared_fault.proofs.owners.pair_fault.Goals as goal
 
 pub load-second-requires : goal.load-second-requires
 load-second-requires c =
-    package-inside c.args.m.now c.args.jobs.now _ c.requires.1.1 c.requires.0.packages
+    package-inside c.args.m.now c.args.jobs.now _ c.requires.i_in_bounds.1 c.requires.inside.packages
 
 pub shares_word-requires : goal.shares_word-requires
 shares_word-requires c =

@@ -1,4 +1,5 @@
 -- `shared_verdict::lists::lists_fit` meets its contract.
+use Rattle.std.proofs.Common.{sym, ◌∙◌}
 use borrow.Author.Rules.{rules}
 use borrow.Author.Tests.{le-leb, lt-leb}
 use Rattle.base_logic.specs.Laws.Tests.{holds, fails}
@@ -8,14 +9,14 @@ use Rattle.shared_verdict.proofs.lists.lists_fit.Goals as goal
 
 pub returns-then-not-jobs_fit : goal.returns-then-not-jobs_fit
 unfolding lists_fit
-returns-then-not-jobs_fit c = rw (fails c.jobs_fit.ensures c.if-not-jobs_fit.true)
+returns-then-not-jobs_fit c = rw (sym c.jobs_fit.ensures ∙ c.if-not-jobs_fit.true)
 
 pub returns-then-js-gt-MOST_STINTS : goal.returns-then-js-gt-MOST_STINTS
 unfolding lists_fit
 returns-then-js-gt-MOST_STINTS c =
-    rw (holds c.jobs_fit.ensures c.if-not-jobs_fit.false, lt-leb _ most_stints c.if-js-gt-MOST_STINTS.true)
+    rw (sym c.jobs_fit.ensures ∙ c.if-not-jobs_fit.false, lt-leb _ most_stints c.if-js-gt-MOST_STINTS.true)
 
 pub returns : goal.returns
 unfolding lists_fit
 returns c =
-    rw (holds c.jobs_fit.ensures c.if-not-jobs_fit.false, le-leb _ most_stints c.if-js-gt-MOST_STINTS.false)
+    rw (sym c.jobs_fit.ensures ∙ c.if-not-jobs_fit.false, le-leb _ most_stints c.if-js-gt-MOST_STINTS.false)

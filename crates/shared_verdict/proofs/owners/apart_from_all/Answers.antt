@@ -16,7 +16,7 @@ jobs_apart-requires c =
     (pre.0, (pre.1, c.loop-j-test.true))
 
 pub returns-then-not-jobs_apart : goal.returns-then-not-jobs_apart
-returns-then-not-jobs_apart c = one-fails _ _ _ c.loop-j-test.true (fails c.jobs_apart.ensures c.if-not-jobs_apart.true)
+returns-then-not-jobs_apart c = one-fails _ _ _ c.loop-j-test.true (sym c.jobs_apart.ensures ∙ c.if-not-jobs_apart.true)
 
 pub overflow_add-j : goal.overflow_add-j
 overflow_add-j c = omega arith
@@ -26,7 +26,7 @@ loop-j-smaller c = omega arith
 
 pub loop-j-preserved : goal.loop-j-preserved
 loop-j-preserved c =
-    one_more _ _ _ c.loop-j.invariant c.loop-j-test.true (holds c.jobs_apart.ensures c.if-not-jobs_apart.false)
+    one_more _ _ _ c.loop-j.invariant c.loop-j-test.true (sym c.jobs_apart.ensures ∙ c.if-not-jobs_apart.false)
 
 pub returns : goal.returns
 returns c = all-passed _ _ _ c.loop-j.invariant c.loop-j-test.false

@@ -9,11 +9,11 @@ use Rattle.shared_verdict.proofs.owners.jobs_apart.Goals as goal
 
 pub load-first-requires : goal.load-first-requires
 load-first-requires c =
-    package-inside c.args.m.now c.args.jobs.now _ c.requires.1.0 c.requires.0.packages
+    package-inside c.args.m.now c.args.jobs.now _ c.requires.i_in_bounds.0 c.requires.inside.packages
 
 pub load-second-requires : goal.load-second-requires
 load-second-requires c =
-    package-inside c.args.m.now c.args.jobs.now _ c.requires.1.1 c.requires.0.packages
+    package-inside c.args.m.now c.args.jobs.now _ c.requires.i_in_bounds.1 c.requires.inside.packages
 
 pub shares_word-crossed-requires : goal.shares_word-crossed-requires
 shares_word-crossed-requires c =

@@ -6,8 +6,8 @@ use Rattle.whole_device.proofs.calls.drop_value.Goals as goal
 
 pub returns-then-not-channel_fits : goal.returns-then-not-channel_fits
 unfolding drop_of
-returns-then-not-channel_fits c = rw (fails c.channel_fits.ensures c.if-not-channel_fits.true)
+returns-then-not-channel_fits c = rw (sym c.channel_fits.ensures ∙ c.if-not-channel_fits.true)
 
 pub returns : goal.returns
 unfolding drop_of
-returns c = rw (holds c.channel_fits.ensures c.if-not-channel_fits.false)
+returns c = rw (sym c.channel_fits.ensures ∙ c.if-not-channel_fits.false)

@@ -6,10 +6,10 @@ use Rattle.whole_processors.specs.Laws.Processors.{own-size, ProcessorsGoing, pr
 use Rattle.whole_processors.proofs.processors.processors_turn.Goals as goal
 
 pub overflow_add-end : goal.overflow_add-end
-overflow_add-end c = omega (arith, c.requires.1.1)
+overflow_add-end c = omega (arith, c.requires.count_in_bounds.1)
 
 pub loop-left-init : goal.loop-left-init
-loop-left-init c = processors-going-start _ _ _ (machine _ _ _ _) c.requires.0
+loop-left-init c = processors-going-start _ _ _ (machine _ _ _ _) c.requires.machine_kept
 
 pub overflow_sub-end : goal.overflow_sub-end
 overflow_sub-end c = omega (arith, c.loop-left-test.true, c.loop-left.invariant.most)

@@ -13,10 +13,10 @@ pub returns-then-s-ne0 : goal.returns-then-s-ne0
 returns-then-s-ne0 c = central-stopped _ _ _ c.if-s-ne0.true
 
 pub overflow_add-end : goal.overflow_add-end
-overflow_add-end c = omega (arith, field_room _ _ c.requires.0)
+overflow_add-end c = omega (arith, field_room _ _ c.requires.host_accepted)
 
 pub offset_bounds-c-start : goal.offset_bounds-c-start
-offset_bounds-c-start c = omega (arith, field_room _ _ c.requires.0)
+offset_bounds-c-start c = omega (arith, field_room _ _ c.requires.host_accepted)
 
 pub slice_bounds-turns-end : goal.slice_bounds-turns-end
 slice_bounds-turns-end c =

@@ -8,10 +8,10 @@ use Rattle.whole_rounds.specs.Laws.Rounds.{RoundsGoing, rounds-going-start, roun
 use Rattle.whole_rounds.proofs.round.run.Goals as goal
 
 pub loop-made-init : goal.loop-made-init
-loop-made-init c = rounds-going-start _ _ (machine _ _ _ _) c.requires.0
+loop-made-init c = rounds-going-start _ _ (machine _ _ _ _) c.requires.machine_kept
 
 pub all_stopped-requires : goal.all_stopped-requires
-all_stopped-requires c = c.requires.1
+all_stopped-requires c = c.requires.k_bound
 
 pub shape_of-m-then-all_stopped : goal.shape_of-m-then-all_stopped
 shape_of-m-then-all_stopped c =
@@ -53,7 +53,7 @@ loop-made-preserved c =
     rounds-going-on _ _ (machine _ _ _ _) (machine _ _ _ _) _ loop.invariant pre.1 loop-test.true (sym all-stopped.ensures ∙ if1.false) (machine _ _ _ _) round.ensures
 
 pub shape_of-m : goal.shape_of-m
-shape_of-m c = c.loop-made.invariant.kept.size ∙ sym c.requires.0.size
+shape_of-m c = c.loop-made.invariant.kept.size ∙ sym c.requires.machine_kept.size
 
 pub shape_of-c : goal.shape_of-c
 shape_of-c c = c.loop-made.invariant.long

@@ -25,7 +25,7 @@ returns-then-not-channel_fits c =
     let i = c.loop-i.i in
     one-fails (channel_fits_at l) 12 i
     c.loop-i-test.true
-    (fails c.channel_fits.ensures c.if-not-channel_fits.true)
+    (sym c.channel_fits.ensures ∙ c.if-not-channel_fits.true)
 
 pub overflow_add-i : goal.overflow_add-i
 overflow_add-i c = omega arith
@@ -40,7 +40,7 @@ loop-i-preserved c =
     one_more (channel_fits_at l) 12 i
     c.loop-i.invariant
     c.loop-i-test.true
-    (holds c.channel_fits.ensures c.if-not-channel_fits.false)
+    (sym c.channel_fits.ensures ∙ c.if-not-channel_fits.false)
 
 pub returns : goal.returns
 unfolding channels_fit

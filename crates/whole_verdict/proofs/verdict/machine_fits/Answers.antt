@@ -1,4 +1,5 @@
 -- `whole_verdict::verdict::machine_fits` meets its contract.
+use Rattle.std.proofs.Common.{sym, ◌∙◌}
 use Prim.Native.Nat.{◌^◌}
 use native.Mathlib.Omega.{arith}
 use borrow.Author.Tests.{lt-ltb, le-ltb}
@@ -9,13 +10,13 @@ use Rattle.whole_verdict.proofs.verdict.machine_fits.Goals as goal
 
 pub returns-then-not-record_fits : goal.returns-then-not-record_fits
 unfolding machine_fits
-returns-then-not-record_fits c = rw (fails c.record_fits.ensures c.if-not-record_fits.true)
+returns-then-not-record_fits c = rw (sym c.record_fits.ensures ∙ c.if-not-record_fits.true)
 
 pub returns-then-r-gt4095 : goal.returns-then-r-gt4095
 unfolding machine_fits
 returns-then-r-gt4095 c =
     rw (
-      holds c.record_fits.ensures c.if-not-record_fits.false,
+      sym c.record_fits.ensures ∙ c.if-not-record_fits.false,
       le-ltb c.args.r.clock (2 ^ 12) (omega arith),
     )
 
@@ -23,17 +24,17 @@ pub returns-then-not-channels_fit : goal.returns-then-not-channels_fit
 unfolding machine_fits
 returns-then-not-channels_fit c =
     rw (
-      holds c.record_fits.ensures c.if-not-record_fits.false,
+      sym c.record_fits.ensures ∙ c.if-not-record_fits.false,
       lt-ltb c.args.r.clock (2 ^ 12) (omega arith),
-      fails c.channels_fit.ensures c.if-not-channels_fit.true,
+      sym c.channels_fit.ensures ∙ c.if-not-channels_fit.true,
     )
 
 pub returns : goal.returns
 unfolding machine_fits
 returns c =
     rw (
-      holds c.record_fits.ensures c.if-not-record_fits.false,
+      sym c.record_fits.ensures ∙ c.if-not-record_fits.false,
       lt-ltb c.args.r.clock (2 ^ 12) (omega arith),
-      holds c.channels_fit.ensures c.if-not-channels_fit.false,
+      sym c.channels_fit.ensures ∙ c.if-not-channels_fit.false,
     )
     c.processors_fit.ensures

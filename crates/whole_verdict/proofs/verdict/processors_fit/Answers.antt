@@ -23,7 +23,7 @@ returns-then-not-processor_fits c =
     let i = c.loop-i.i in
     one-fails (processor_fits_at l) 10 i
     c.loop-i-test.true
-    (fails c.processor_fits.ensures c.if-not-processor_fits.true)
+    (sym c.processor_fits.ensures ∙ c.if-not-processor_fits.true)
 
 pub overflow_add-i : goal.overflow_add-i
 overflow_add-i c = omega arith
@@ -38,7 +38,7 @@ loop-i-preserved c =
     one_more (processor_fits_at l) 10 i
     c.loop-i.invariant
     c.loop-i-test.true
-    (holds c.processor_fits.ensures c.if-not-processor_fits.false)
+    (sym c.processor_fits.ensures ∙ c.if-not-processor_fits.false)
 
 pub returns : goal.returns
 unfolding processors_fit

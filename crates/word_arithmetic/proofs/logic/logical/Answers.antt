@@ -34,4 +34,4 @@ returns-in-6 c = rw (c.in-6.is, ← c.complement60-in-6.ensures)
 
 pub returns-in_default : goal.returns-in_default
 unfolding logical
-returns-in_default c = rw (last_arm 7 c.args.m (search rules) c.in_default.rest, ← c.complement60-in_default.ensures)
+returns-in_default c = rw ((let last : c.args.m ≡ 7 = omega arith in last), ← c.complement60-in_default.ensures)
