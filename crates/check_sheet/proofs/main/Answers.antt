@@ -8,4 +8,4 @@ pub print_line-requires : goal.print_line-requires
 print_line-requires c =
     let loop-test = c.loop-n-test in
     let table = c.table-t in
-    (table.ensures, omega (arith, loop-test.true))
+    record { t_value = table.ensures; n_bound = omega (arith, loop-test.true) }

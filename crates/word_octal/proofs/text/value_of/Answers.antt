@@ -12,7 +12,7 @@ pub bounds-text-i : goal.bounds-text-i
 bounds-text-i c = omega arith
 
 pub returns-then-byte-lt48 : goal.returns-then-byte-lt48
-returns-then-byte-lt48 c =reading-below c.loop-i.invariant c.loop-i-test.true (omega (arith, c.if-byte-lt48.true))
+returns-then-byte-lt48 c = reading-below c.loop-i.invariant c.loop-i-test.true (omega (arith, c.if-byte-lt48.true))
 
 pub returns-then-byte-gt55 : goal.returns-then-byte-gt55
 returns-then-byte-gt55 c =
