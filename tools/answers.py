@@ -357,4 +357,5 @@ def main(words):
             convert(path, lists[key], crate, function)
 
 
-main(sys.argv[1:])
+if __name__ == "__main__":
+    main(sys.argv[1:])

@@ -14,7 +14,7 @@ pub refer-requires : goal.refer-requires
 refer-requires c =
     let pre = c.requires in
     let convert = c.convert-p in
-    ((omega arith, pre.0), (pre.1, rw convert.ensures (place-within _ _)))
+    record { le_i = (omega arith, pre.i_bound); lent = pre.lent; within = rw convert.ensures (place-within _ _) }
 
 pub returns : goal.returns
 unfolding a_set

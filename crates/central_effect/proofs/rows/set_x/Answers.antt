@@ -8,7 +8,7 @@ sign_extend18-requires c =
     let pre = c.requires in
     let decode = c.decode-q in
     let operand = c.operand in
-    rw operand.ensures (operand-lt _ _ pre.0 decode.ensures.fit _)
+    rw operand.ensures (operand-lt _ _ pre.wide decode.ensures.fit _)
 
 pub returns : goal.returns
 returns c = rw (← c.decode-q.ensures.is, c.sign_extend18.ensures, c.operand.ensures)

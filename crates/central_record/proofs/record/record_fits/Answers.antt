@@ -11,25 +11,25 @@ use Rattle.central_record.proofs.record.record_fits.Goals as goal
 pub returns-then-c-gt262143 : goal.returns-then-c-gt262143
 unfolding record_fits
 returns-then-c-gt262143 c =
-    let t = c.args.t1 in
+    let t = c.args.c in
     rw (le-ltb t.p (2 ^ 18) (omega arith))
 
 pub returns-then-c-gt262143-2 : goal.returns-then-c-gt262143-2
 unfolding record_fits
 returns-then-c-gt262143-2 c =
-    let t = c.args.t1 in
+    let t = c.args.c in
     rw (lt-ltb t.p (2 ^ 18) (omega arith), le-ltb t.ra (2 ^ 18) (omega arith))
 
 pub returns-then-c-gt262143-3 : goal.returns-then-c-gt262143-3
 unfolding record_fits
 returns-then-c-gt262143-3 c =
-    let t = c.args.t1 in
+    let t = c.args.c in
     rw (lt-ltb t.p (2 ^ 18) (omega arith), lt-ltb t.ra (2 ^ 18) (omega arith), le-ltb t.fl (2 ^ 18) (omega arith))
 
 pub returns-then-words-c : goal.returns-then-words-c
 unfolding record_fits
 returns-then-words-c c =
-    let t = c.args.t1 in
+    let t = c.args.c in
     let n = c.args.words in
     rw (
       lt-ltb t.p (2 ^ 18) (omega arith),
@@ -41,7 +41,7 @@ returns-then-words-c c =
 pub returns-then-not-stop_listed : goal.returns-then-not-stop_listed
 unfolding record_fits
 returns-then-not-stop_listed c =
-    let t = c.args.t1 in
+    let t = c.args.c in
     let n = c.args.words in
     rw (
       lt-ltb t.p (2 ^ 18) (omega arith),
@@ -54,7 +54,7 @@ returns-then-not-stop_listed c =
 pub returns-then-b0-ne0 : goal.returns-then-b0-ne0
 unfolding record_fits
 returns-then-b0-ne0 c =
-    let t = c.args.t1 in
+    let t = c.args.c in
     let n = c.args.words in
     rw (
       lt-ltb t.p (2 ^ 18) (omega arith),
@@ -68,7 +68,7 @@ returns-then-b0-ne0 c =
 pub returns-then-em_fits : goal.returns-then-em_fits
 unfolding record_fits
 returns-then-em_fits c =
-    let t = c.args.t1 in
+    let t = c.args.c in
     let n = c.args.words in
     rw (
       lt-ltb t.p (2 ^ 18) (omega arith),
@@ -84,7 +84,7 @@ returns-then-em_fits c =
 pub returns : goal.returns
 unfolding record_fits
 returns c =
-    let t = c.args.t1 in
+    let t = c.args.c in
     let n = c.args.words in
     rw (
       lt-ltb t.p (2 ^ 18) (omega arith),

@@ -20,7 +20,7 @@ bounds-registers-i c = omega arith
 pub returns-then-limit-registers : goal.returns-then-limit-registers
 unfolding registers_fit
 returns-then-limit-registers c =
-    let r = c.args.t1 in
+    let r = c.args.registers in
     let i = c.loop-i.i in
     let wide : 2 ^ register_width i ≤ get_or r i 0 = rw c.register_limit-limit.ensures at c.if-limit-registers.true in
     one-fails (register_fits r) 24 i c.loop-i-test.true (le-ltb (get_or r i 0) (2 ^ register_width i) wide)
@@ -33,7 +33,7 @@ loop-i-smaller c = omega arith
 
 pub loop-i-preserved : goal.loop-i-preserved
 loop-i-preserved c =
-    let r = c.args.t1 in
+    let r = c.args.registers in
     let i = c.loop-i.i in
     let fits : get_or r i 0 < 2 ^ register_width i = rw c.register_limit-limit.ensures at c.if-limit-registers.false in
     one_more (register_fits r) 24 i c.loop-i.invariant c.loop-i-test.true (lt-ltb (get_or r i 0) (2 ^ register_width i) fits)

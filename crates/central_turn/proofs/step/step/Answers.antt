@@ -15,21 +15,21 @@ returns-then-entry-ge-UNFIT c =
     let pre = c.requires in
     let entry_of = c.entry_of-entry in
     let is = entry-at-top _ _ entry_of.ensures in
-    ran-unfit _ _ _ _ _ _ pre.1.1.1.1.0 pre.1.1.1.1.1 is c.if-entry-ge-UNFIT.true
+    ran-unfit _ _ _ _ _ _ pre.remaining_bound pre.remaining_value is c.if-entry-ge-UNFIT.true
 
 pub returns-then-remaining-entry : goal.returns-then-remaining-entry
 returns-then-remaining-entry c =
     let pre = c.requires in
     let entry_of = c.entry_of-entry in
     let is = entry-at-top _ _ entry_of.ensures in
-    ran-cut _ _ _ _ _ _ pre.1.1.1.1.0 pre.1.1.1.1.1 is c.if-entry-ge-UNFIT.false c.if-remaining-entry.true
+    ran-cut _ _ _ _ _ _ pre.remaining_bound pre.remaining_value is c.if-entry-ge-UNFIT.false c.if-remaining-entry.true
 
 pub apply-requires : goal.apply-requires
 apply-requires c =
     let pre = c.requires in
     let args = c.args in
     let effect_of = c.effect_of-e in
-    (pre.1.0, rw effect_of.ensures (effect-sound _ _ pre.0 (top-fits args.v (omega arith)) _ _ pre.1.1.1.0))
+    record { lent = pre.lent; central_sound = rw effect_of.ensures (effect-sound _ _ pre.wide (top-fits args.v (omega arith)) _ _ pre.p_bound) }
 
 pub returns : goal.returns
 returns c =
@@ -39,4 +39,4 @@ returns c =
     let effect_of = c.effect_of-e in
     let apply = c.apply in
     let is = entry-at-top _ _ entry_of.ensures in
-    ran-whole _ _ _ _ _ _ pre.1.1.1.1.0 pre.1.1.1.1.1 is _ _ if1.false effect_of.ensures apply.ensures
+    ran-whole _ _ _ _ _ _ pre.remaining_bound pre.remaining_value is _ _ if1.false effect_of.ensures apply.ensures

@@ -19,7 +19,7 @@ run_word-requires c =
     let pre = c.requires in
     let convert = c.convert in
     let a = c.a-1 in
-    (pre.0, (pre.1.0, (pre.1.1, inside-below _ _ _ (sym convert.ensures ∙ a.given.1))))
+    record { state_kept = pre.state_kept; fl_bound = pre.fl_bound; t_value = pre.t_value; p_lt_fl = inside-below _ _ _ (sym convert.ensures ∙ a.given.1) }
 
 pub returns-in-Inside : goal.returns-in-Inside
 unfolding turn_of

@@ -12,7 +12,7 @@ pub turn-e-requires : goal.turn-e-requires
 turn-e-requires c =
     let pre = c.requires in
     let loop = c.loop-left in
-    (loop.invariant.kept, (pre.1.0, pre.1.1.0))
+    record { state_kept = loop.invariant.kept; fl_bound = pre.fl_bound; t_value = pre.t_value }
 
 pub overflow_sub-left : goal.overflow_sub-left
 overflow_sub-left c = omega arith
@@ -25,7 +25,7 @@ shape_of-f-then-e-ne0 c =
     let pre = c.requires in
     let loop = c.loop-left in
     let turn = c.turn-e in
-    turn.auto.1.0 ∙ loop.invariant.kept.size ∙ sym pre.0.size
+    turn.auto.1.0 ∙ loop.invariant.kept.size ∙ sym pre.state_kept.size
 
 pub returns-then-e-ne0 : goal.returns-then-e-ne0
 returns-then-e-ne0 c =
@@ -34,7 +34,7 @@ returns-then-e-ne0 c =
     let loop-test = c.loop-left-test in
     let turn = c.turn-e in
     let if1 = c.if-e-ne0 in
-    run-going-stop _ (omega (arith, pre.1.0)) _ _ _ _ _ _ loop.invariant loop-test.true _ turn.ensures if1.true
+    run-going-stop _ (omega (arith, pre.fl_bound)) _ _ _ _ _ _ loop.invariant loop-test.true _ turn.ensures if1.true
 
 pub loop-left-smaller : goal.loop-left-smaller
 loop-left-smaller c = omega arith
@@ -46,7 +46,7 @@ loop-left-preserved c =
     let loop-test = c.loop-left-test in
     let turn = c.turn-e in
     let if1 = c.if-e-ne0 in
-    run-going-on _ (omega (arith, pre.1.0)) _ _ _ _ _ _ loop.invariant loop-test.true _ turn.ensures if1.false
+    run-going-on _ (omega (arith, pre.fl_bound)) _ _ _ _ _ _ loop.invariant loop-test.true _ turn.ensures if1.false
 
 pub shape_of-f : goal.shape_of-f
 shape_of-f c = c.loop-left.invariant.kept.size ∙ sym c.requires.state_kept.size
@@ -56,4 +56,4 @@ returns c =
     let pre = c.requires in
     let loop = c.loop-left in
     let loop-test = c.loop-left-test in
-    run-going-end _ (omega (arith, pre.1.0)) _ _ _ _ _ _ loop.invariant loop-test.false
+    run-going-end _ (omega (arith, pre.fl_bound)) _ _ _ _ _ _ loop.invariant loop-test.false

@@ -8,7 +8,7 @@ pub write_stints-next-requires : goal.write_stints-next-requires
 write_stints-next-requires c =
     let pre = c.requires in
     let most = pre.stints c.in-Accepted.is in
-    ((omega (arith, pre.turns, most), omega (arith, pre.stops, most)), omega (arith, pre.room, most))
+    record { jobs_in_bounds = (omega (arith, pre.turns, most), omega (arith, pre.stops, most)); jobs_in_bounds_2 = omega (arith, pre.room, most) }
 
 pub write_words-requires : goal.write_words-requires
 write_words-requires c =

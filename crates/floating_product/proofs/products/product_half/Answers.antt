@@ -10,20 +10,20 @@ pub overflow_add-fall : goal.overflow_add-fall
 overflow_add-fall c =
     let pre = c.requires in
     let moved-product = c.moved_product-p in
-    omega (arith, (product-cut _ _ _ pre.0 pre.1 moved-product.ensures).places-lt)
+    omega (arith, (product-cut _ _ _ pre.number_fits pre.number_fits_2 moved-product.ensures).places-lt)
 
 pub word_of-requires : goal.word_of-requires
 word_of-requires c =
     let pre = c.requires in
     let moved-product = c.moved_product-p in
-    let cut = product-cut _ _ _ pre.0 pre.1 moved-product.ensures in
+    let cut = product-cut _ _ _ pre.number_fits pre.number_fits_2 moved-product.ensures in
     omega (arith, cut.low-lt, cut.high_lt)
 
 pub word_of-requires-else-lower : goal.word_of-requires-else-lower
 word_of-requires-else-lower c =
     let pre = c.requires in
     let moved-product = c.moved_product-p in
-    let cut = product-cut _ _ _ pre.0 pre.1 moved-product.ensures in
+    let cut = product-cut _ _ _ pre.number_fits pre.number_fits_2 moved-product.ensures in
     omega (arith, cut.low-lt, cut.high_lt)
 
 pub returns-then-lower : goal.returns-then-lower

@@ -45,7 +45,7 @@ pub product_half-requires : goal.product_half-requires
 product_half-requires c =
     let number_in = c.number_in in
     let pre = c.requires in
-    (subst NumberFits (sym number_in.ensures) (number_fits _ pre.0), subst NumberFits (sym c.number_in-2.ensures) (number_fits _ pre.1))
+    record { number_fits = subst NumberFits (sym number_in.ensures) (number_fits _ pre.0); number_fits_2 = subst NumberFits (sym c.number_in-2.ensures) (number_fits _ pre.1) }
 
 pub returns : goal.returns
 unfolding product_word

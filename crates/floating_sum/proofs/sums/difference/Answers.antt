@@ -13,14 +13,14 @@ less-requires c =
     let pre = c.requires in
     let args = c.args in
     let is_below = c.is_below in
-    (pre.1, (pre.0, le_of_lt (ltb-true (whole args.p) (whole args.q) (sym is_below.ensures ∙ c.if-is_below.true))))
+    record { cut = pre.cut_2; cut_2 = pre.cut; b_bound = le_of_lt (ltb-true (whole args.p) (whole args.q) (sym is_below.ensures ∙ c.if-is_below.true)) }
 
 pub less-requires-else-is_below : goal.less-requires-else-is_below
 less-requires-else-is_below c =
     let pre = c.requires in
     let args = c.args in
     let is_below = c.is_below in
-    (pre.0, (pre.1, ltb-false (whole args.p) (whole args.q) (sym is_below.ensures ∙ c.if-is_below.false)))
+    (pre.cut, (pre.cut_2, ltb-false (whole args.p) (whole args.q) (sym is_below.ensures ∙ c.if-is_below.false)))
 
 pub returns-then-is_below : goal.returns-then-is_below
 returns-then-is_below c =

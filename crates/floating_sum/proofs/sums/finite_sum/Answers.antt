@@ -8,7 +8,7 @@ pub signed_sum-s-requires : goal.signed_sum-s-requires
 signed_sum-s-requires c =
     let pre = c.requires in
     let placed = c.placed-a in
-    (placed-cut _ _ _ pre.0 placed.ensures, placed-cut _ _ _ pre.1 c.placed-b.ensures)
+    record { cut = placed-cut _ _ _ pre.number_fits placed.ensures; cut_2 = placed-cut _ _ _ pre.number_fits_2 c.placed-b.ensures }
 
 pub moved-requires : goal.moved-requires
 moved-requires c =
@@ -16,8 +16,8 @@ moved-requires c =
     let placed2 = c.placed-b in
     let signed-sum = c.signed_sum-s in
     let pre = c.requires in (
-      sum-cut _ _ _ _ _ _ _ placed.ensures placed2.ensures signed-sum.ensures pre.0 pre.1,
-      omega (arith, c.larger.ensures, pre.0.biased-lt, pre.1.biased-lt),
+      sum-cut _ _ _ _ _ _ _ placed.ensures placed2.ensures signed-sum.ensures pre.number_fits pre.number_fits_2,
+      omega (arith, c.larger.ensures, pre.number_fits.biased-lt, pre.number_fits_2.biased-lt),
     )
 
 pub returns : goal.returns

@@ -62,7 +62,7 @@ pub finite_sum-requires : goal.finite_sum-requires
 finite_sum-requires c =
     let number_in = c.number_in in
     let pre = c.requires in
-    (subst NumberFits (sym number_in.ensures) (number_fits _ pre.0), subst NumberFits (sym c.number_in-2.ensures) (number_fits _ pre.1))
+    record { number_fits = subst NumberFits (sym number_in.ensures) (number_fits _ pre.0); number_fits_2 = subst NumberFits (sym c.number_in-2.ensures) (number_fits _ pre.1) }
 
 pub half_of-requires : goal.half_of-requires
 half_of-requires c =

@@ -15,13 +15,13 @@ offset_bounds-m-at c = omega (arith, (subst (PeripheralSound _) c.in-Store.is c.
 pub bounds-m-at : goal.bounds-m-at
 bounds-m-at c =
     let pre = c.requires in
-    omega (arith, (subst (PeripheralSound _) c.in-Store.is pre.1.1.1).1.0, pre.0)
+    omega (arith, (subst (PeripheralSound _) c.in-Store.is pre.peripheral_sound).1.0, pre.m_len)
 
 pub set_parts-requires : goal.set_parts-requires
 set_parts-requires c =
     let pre = c.requires in
     let e3 = c.e-in-ReadCentral-1 in
-    omega (arith, (subst (PeripheralSound _) e3.given.1 pre.1.1.1).1, pre.0)
+    omega (arith, (subst (PeripheralSound _) e3.given.1 pre.peripheral_sound).1, pre.m_len)
 
 pub offset_bounds-c-at : goal.offset_bounds-c-at
 offset_bounds-c-at c = let h = (subst (PeripheralSound _) c.in-WriteCentral.is c.requires.peripheral_sound).1.0 in search rules
@@ -36,7 +36,7 @@ pub exchange_at-requires : goal.exchange_at-requires
 exchange_at-requires c =
     let pre = c.requires in
     let e6 = c.e-in-Exchange-1 in
-    ((subst (PeripheralSound _) e6.given.1 pre.1.1.1).1.inside, pre.1.0)
+    record { at_in_bounds = (subst (PeripheralSound _) e6.given.1 pre.peripheral_sound).1.inside; fits_package = pre.fits_package }
 
 pub returns-in-Advance : goal.returns-in-Advance
 unfolding peripheral_applied

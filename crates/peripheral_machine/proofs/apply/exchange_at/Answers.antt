@@ -6,7 +6,7 @@ use Rattle.peripheral_machine.proofs.apply.exchange_at.Goals as goal
 pub exchange_jump-next-requires : goal.exchange_jump-next-requires
 exchange_jump-next-requires c =
     let pre = c.requires in
-    (pre.0, rw c.central_of-before.ensures pre.1)
+    (pre.at_in_bounds, rw c.central_of-before.ensures pre.fits_package)
 
 pub returns : goal.returns
 returns c =

@@ -13,14 +13,14 @@ pub effect_of-e-requires : goal.effect_of-e-requires
 effect_of-e-requires c =
     let pre = c.requires in
     let processor-of = c.processor_of-q in
-    (kept_memory (machine _ _ _ _) pre.0, rw processor-of.ensures (kept-held (machine _ _ _ _) _ pre.1 pre.0))
+    record { memory = kept_memory (machine _ _ _ _) pre.machine_kept; held = rw processor-of.ensures (kept-held (machine _ _ _ _) _ pre.n_bound pre.machine_kept) }
 
 pub apply-requires : goal.apply-requires
 apply-requires c =
     let pre = c.requires in
     let processor-of = c.processor_of-q in
     let effect_of = c.effect_of-e in
-    (pre.0.size, (kept-package (machine _ _ _ _) pre.0, (pre.1, rw (effect_of.ensures, processor-of.ensures) (kept-effect (machine _ _ _ _) _ pre.1 pre.0))))
+    record { m_len = pre.machine_kept.size; fits_package = kept-package (machine _ _ _ _) pre.machine_kept; n_bound = pre.n_bound; peripheral_sound = rw (effect_of.ensures, processor-of.ensures) (kept-effect (machine _ _ _ _) _ pre.n_bound pre.machine_kept) }
 
 pub returns : goal.returns
 returns c =

@@ -11,7 +11,7 @@ load-second-requires c =
 pub shares_word-requires : goal.shares_word-requires
 shares_word-requires c =
     let pre = c.requires in
-    rw c.load-second.ensures (package-end pre.0 _ pre.1.0, field_end pre.0 _ pre.1.1)
+    rw c.load-second.ensures (package-end pre.inside _ pre.i_in_bounds.0, field_end pre.inside _ pre.i_in_bounds.1)
 
 pub returns-then-shares_word : goal.returns-then-shares_word
 unfolding pair_fault
@@ -20,7 +20,7 @@ returns-then-shares_word c = rw (← c.load-second.ensures, ← c.shares_word.en
 pub shares_word-requires-2 : goal.shares_word-requires-2
 shares_word-requires-2 c =
     let pre = c.requires in
-    (package-end pre.0 _ pre.1.0, package-end pre.0 _ pre.1.1)
+    (package-end pre.inside _ pre.i_in_bounds.0, package-end pre.inside _ pre.i_in_bounds.1)
 
 pub returns-then-shares_word-2 : goal.returns-then-shares_word-2
 unfolding pair_fault

@@ -13,7 +13,7 @@ loop-j-init c = none_yet _ _
 pub jobs_apart-requires : goal.jobs_apart-requires
 jobs_apart-requires c =
     let pre = c.requires in
-    (pre.0, (pre.1, c.loop-j-test.true))
+    record { inside = pre.inside; i_in_bounds = (pre.i_in_bounds, c.loop-j-test.true) }
 
 pub returns-then-not-jobs_apart : goal.returns-then-not-jobs_apart
 returns-then-not-jobs_apart c = one-fails _ _ _ c.loop-j-test.true (sym c.jobs_apart.ensures ∙ c.if-not-jobs_apart.true)

@@ -7,7 +7,7 @@ use Rattle.single_calls.proofs.program.overlap_verdict.Goals as goal
 pub shares_word-requires : goal.shares_word-requires
 shares_word-requires c =
     let pre = c.requires in
-    rw c.load-c.ensures (omega (arith, pre.0.inside, pre.1), omega (arith, pre.0.field, pre.1))
+    rw c.load-c.ensures (omega (arith, pre.package_accepted.inside, pre.m_len_bound), omega (arith, pre.package_accepted.field, pre.m_len_bound))
 
 pub returns-then-shares_word : goal.returns-then-shares_word
 unfolding overlap_verdict

@@ -8,7 +8,7 @@ use Rattle.single_calls.proofs.program.owner_verdict.Goals as goal
 pub overlap_verdict-requires : goal.overlap_verdict-requires
 overlap_verdict-requires c =
     let package-verdict = c.package_verdict in
-    (package-accepted _ _ (sym package-verdict.ensures ∙ c.in-Accepted.is), c.requires)
+    record { package_accepted = package-accepted _ _ (sym package-verdict.ensures ∙ c.in-Accepted.is); m_len_bound = c.requires }
 
 pub returns-in-Accepted : goal.returns-in-Accepted
 unfolding owner_verdict

@@ -21,8 +21,8 @@ processor_turn-requires c =
     let loop-test = c.loop-left-test in (
       own-size _ (machine _ _ _ _) loop.invariant.kept,
       (
-        omega (arith, loop-test.true, loop.invariant.most, loop.invariant.kept.size, pre.1.0),
-        omega (arith, loop-test.true, loop.invariant.most, pre.1.1),
+        omega (arith, loop-test.true, loop.invariant.most, loop.invariant.kept.size, pre.count_in_bounds.0),
+        omega (arith, loop-test.true, loop.invariant.most, pre.count_in_bounds.1),
       ),
     )
 
@@ -38,7 +38,7 @@ loop-left-preserved c =
     let loop = c.loop-left in
     let loop-test = c.loop-left-test in
     let processor-turn = c.processor_turn in
-    processors-going-on _ _ _ (machine _ _ _ _) (machine _ _ _ _) _ loop.invariant pre.1.0 pre.1.1 loop-test.true (machine _ _ _ _) processor-turn.ensures
+    processors-going-on _ _ _ (machine _ _ _ _) (machine _ _ _ _) _ loop.invariant pre.count_in_bounds.0 pre.count_in_bounds.1 loop-test.true (machine _ _ _ _) processor-turn.ensures
 
 pub shape_of-m : goal.shape_of-m
 shape_of-m c = c.loop-left.invariant.kept.size

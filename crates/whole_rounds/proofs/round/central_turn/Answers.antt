@@ -21,13 +21,13 @@ offset_bounds-c-start c = omega (arith, field_room _ _ c.requires.host_accepted)
 pub slice_bounds-turns-end : goal.slice_bounds-turns-end
 slice_bounds-turns-end c =
     let pre = c.requires in
-    omega (arith, field-inside _ _ pre.0)
+    omega (arith, field-inside _ _ pre.host_accepted)
 
 pub turns-o-requires : goal.turns-o-requires
 turns-o-requires c =
     let args = c.args in
     let pre = c.requires in
-    rw (place-back (get_or args.s.now 79 0) (get_or args.s.now 80 0)) (field-kept _ _ pre.0 pre.1.0, (field_room _ _ pre.0, (pre.1.1, p-short _ _ pre.0)))
+    rw (place-back (get_or args.s.now 79 0) (get_or args.s.now 80 0)) (field-kept _ _ pre.host_accepted pre.x_len, (field_room _ _ pre.host_accepted, (pre.t_value, p-short _ _ pre.host_accepted)))
 
 pub returns : goal.returns
 returns c =

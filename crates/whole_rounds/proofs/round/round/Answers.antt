@@ -7,21 +7,21 @@ use Rattle.whole_rounds.proofs.round.round.Goals as goal
 pub processors_turn-requires : goal.processors_turn-requires
 processors_turn-requires c =
     let pre = c.requires in
-    all-ready _ pre.1.0 (machine _ _ _ _) pre.0
+    all-ready _ pre.k_bound (machine _ _ _ _) pre.machine_kept
 
 pub central_turn-requires : goal.central_turn-requires
 central_turn-requires c =
     let pre = c.requires in
     let processors-turn = c.processors_turn in
-    let o = after_kept _ pre.1.0 (machine _ _ _ _) pre.0 (machine _ _ _ _) processors-turn.ensures in
-    (o.host, (o.count, pre.1.1))
+    let o = after_kept _ pre.k_bound (machine _ _ _ _) pre.machine_kept (machine _ _ _ _) processors-turn.ensures in
+    record { host_accepted = o.host; x_len = o.count; t_value = pre.t_value }
 
 pub tick-requires : goal.tick-requires
 tick-requires c =
     let pre = c.requires in
     let processors-turn = c.processors_turn in
     let central-turn = c.central_turn in
-    clock-kept _ pre.1.0 (machine _ _ _ _) pre.0 (machine _ _ _ _) processors-turn.ensures (central_side _ _ _) central-turn.ensures
+    clock-kept _ pre.k_bound (machine _ _ _ _) pre.machine_kept (machine _ _ _ _) processors-turn.ensures (central_side _ _ _) central-turn.ensures
 
 pub returns : goal.returns
 returns c =
@@ -29,4 +29,4 @@ returns c =
     let processors-turn = c.processors_turn in
     let central-turn = c.central_turn in
     let tick = c.tick in
-    round_is _ pre.1.0 (machine _ _ _ _) pre.0 (machine _ _ _ _) processors-turn.ensures (central_side _ _ _) central-turn.ensures _ tick.ensures
+    round_is _ pre.k_bound (machine _ _ _ _) pre.machine_kept (machine _ _ _ _) processors-turn.ensures (central_side _ _ _) central-turn.ensures _ tick.ensures

@@ -17,7 +17,7 @@ pub shape_of-m-then-all_stopped : goal.shape_of-m-then-all_stopped
 shape_of-m-then-all_stopped c =
     let pre = c.requires in
     let loop = c.loop-made in
-    loop.invariant.kept.size ∙ sym pre.0.size
+    loop.invariant.kept.size ∙ sym pre.machine_kept.size
 
 pub shape_of-c-then-all_stopped : goal.shape_of-c-then-all_stopped
 shape_of-c-then-all_stopped c = c.loop-made.invariant.long
@@ -34,7 +34,7 @@ round-requires c =
     let pre = c.requires in
     let table = c.table-t in
     let loop = c.loop-made in
-    (loop.invariant.kept, (pre.1, table.ensures))
+    record { machine_kept = loop.invariant.kept; k_bound = pre.k_bound; t_value = table.ensures }
 
 pub overflow_add-made : goal.overflow_add-made
 overflow_add-made c = omega arith
@@ -50,7 +50,7 @@ loop-made-preserved c =
     let all-stopped = c.all_stopped in
     let if1 = c.if-all_stopped in
     let round = c.round in
-    rounds-going-on _ _ (machine _ _ _ _) (machine _ _ _ _) _ loop.invariant pre.1 loop-test.true (sym all-stopped.ensures ∙ if1.false) (machine _ _ _ _) round.ensures
+    rounds-going-on _ _ (machine _ _ _ _) (machine _ _ _ _) _ loop.invariant pre.k_bound loop-test.true (sym all-stopped.ensures ∙ if1.false) (machine _ _ _ _) round.ensures
 
 pub shape_of-m : goal.shape_of-m
 shape_of-m c = c.loop-made.invariant.kept.size ∙ sym c.requires.machine_kept.size

@@ -21,7 +21,7 @@ channel_fits-requires c = omega arith
 pub returns-then-not-channel_fits : goal.returns-then-not-channel_fits
 unfolding channels_fit
 returns-then-not-channel_fits c =
-    let l = c.args.t1 in
+    let l = c.args.channels in
     let i = c.loop-i.i in
     one-fails (channel_fits_at l) 12 i
     c.loop-i-test.true
@@ -35,7 +35,7 @@ loop-i-smaller c = omega arith
 
 pub loop-i-preserved : goal.loop-i-preserved
 loop-i-preserved c =
-    let l = c.args.t1 in
+    let l = c.args.channels in
     let i = c.loop-i.i in
     one_more (channel_fits_at l) 12 i
     c.loop-i.invariant

@@ -19,7 +19,7 @@ bounds-processors-i c = omega arith
 pub returns-then-not-processor_fits : goal.returns-then-not-processor_fits
 unfolding processors_fit
 returns-then-not-processor_fits c =
-    let l = c.args.t1 in
+    let l = c.args.processors in
     let i = c.loop-i.i in
     one-fails (processor_fits_at l) 10 i
     c.loop-i-test.true
@@ -33,7 +33,7 @@ loop-i-smaller c = omega arith
 
 pub loop-i-preserved : goal.loop-i-preserved
 loop-i-preserved c =
-    let l = c.args.t1 in
+    let l = c.args.processors in
     let i = c.loop-i.i in
     one_more (processor_fits_at l) 10 i
     c.loop-i.invariant
