@@ -6,4 +6,4 @@ use Rattle.console_text.proofs.pieces.write_decimal.Goals as goal
 pub returns : goal.returns
 returns c =
     let digits = c.decimal_digits-first in
-    wrote-decimal _ _ digits.result digits.new.0 (search rules) digits.ensures.1 c.write_text.ensures
+    wrote-decimal _ _ digits.result digits.new.buffer (search rules) digits.ensures.1 c.write_text.ensures

@@ -12,7 +12,7 @@ use Rattle.exchange_package.proofs.package.package_word.Goals as goal
 pub returns-then-n-lt8 : goal.returns-then-n-lt8
 unfolding package_word
 returns-then-n-lt8 c =
-    let r = c.args.c.registers in
+    let r = c.args.c in
     let n = c.args.n in
     let h = c.if-n-lt8.true in
     let w = c.requires.1 in
