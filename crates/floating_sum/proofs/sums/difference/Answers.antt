@@ -20,7 +20,7 @@ less-requires-else-is_below c =
     let pre = c.requires in
     let args = c.args in
     let is_below = c.is_below in
-    (pre.cut, (pre.cut_2, ltb-false (whole args.p) (whole args.q) (sym is_below.ensures ∙ c.if-is_below.false)))
+    record { cut = pre.cut; cut_2 = pre.cut_2; b_bound = ltb-false (whole args.p) (whole args.q) (sym is_below.ensures ∙ c.if-is_below.false) }
 
 pub returns-then-is_below : goal.returns-then-is_below
 returns-then-is_below c =

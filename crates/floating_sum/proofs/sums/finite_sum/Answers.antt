@@ -15,10 +15,11 @@ moved-requires c =
     let placed = c.placed-a in
     let placed2 = c.placed-b in
     let signed-sum = c.signed_sum-s in
-    let pre = c.requires in (
-      sum-cut _ _ _ _ _ _ _ placed.ensures placed2.ensures signed-sum.ensures pre.number_fits pre.number_fits_2,
-      omega (arith, c.larger.ensures, pre.number_fits.biased-lt, pre.number_fits_2.biased-lt),
-    )
+    let pre = c.requires in
+    record {
+      cut97 = sum-cut _ _ _ _ _ _ _ placed.ensures placed2.ensures signed-sum.ensures pre.number_fits pre.number_fits_2;
+      biased_bound = omega (arith, c.larger.ensures, pre.number_fits.biased-lt, pre.number_fits_2.biased-lt);
+    }
 
 pub returns : goal.returns
 returns c =
