@@ -78,7 +78,7 @@ class Names:
     def callee(self, goal):
         """The function whose call a goal is the requires of."""
         for p in self.places.values():
-            if p[2][1] + "-requires" == goal:
+            if "-requires" in goal and p[2][1] == goal.replace("-requires", "", 1):
                 return p[3]
         return None
 
@@ -113,7 +113,7 @@ START = ("args", "requires", "ranges", "well_formed", "type_inv")
 def clause_path(function, path):
     """Of `c.requires` what is now said by a clause's name: the older form nested the clauses to the right."""
     names = CLAUSES.get(function, [])
-    if len(names) < 2 or not path:
+    if len(names) < 2 or not path or path[0] in names:
         return path
     i, rest = 0, list(path)
     while i < len(names) - 1 and rest and rest[0] == "1":

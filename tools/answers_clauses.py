@@ -22,9 +22,20 @@ def turn(path, lts, rust):
         if m and len(CLAUSES.get(rust, [])) > 1:
             pre = m.group(1)
             block = re.sub(rf"(?<![\w.-]){pre}((?:\.[\w-]+)+)", lambda k: ".".join([pre] + clause_path(rust, k.group(1)[1:].split("."))), block)
+        # a step that an arm now tells, where an answer gave the step a name
+        for name, step in re.findall(r"let ([\w-]+) = c\.([\w-]+) in", block):
+            for place in names.places.values():
+                arm = names.arms[place[0]]
+                if place[2][1] == step and arm:
+                    for field, old, way in arm[2]:
+                        if old == place[2][0] and way:
+                            block = re.sub(rf"(?<![\w.-]){name}\." + re.escape(".".join(way)) + r"(?![\w.-])", f"c.{arm[0]}.{field}", block)
+            if re.match(r"in-", step):
+                block = re.sub(rf"(?<![\w.-]){name}\.keys\d", f"{name}.is", block)
         m = re.search(r"^pub ([\w-]+) : goal\.", block, re.M)
         callee = names.callee(m.group(1)) if m else None
         if callee and len(CLAUSES.get(callee, [])) > 1:
+            block = re.sub(r"(let [\w-]+ = c\.requires in) (?=\()", r"\1\n    ", block)
             head, _, last = block.rpartition(" in\n")
             if not last:
                 head, _, last = block.rpartition(" in (\n")

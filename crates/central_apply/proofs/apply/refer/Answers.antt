@@ -21,7 +21,7 @@ returns-then-i-lt6 c =
     let p = c.p-1 in
     let index = c.index-n in
     let if1 = c.if-i-lt6 in
-    rw (p.given.1, lt-ltb _ 6 if1.true, c.set_x.ensures, index.ensures.is)
+    rw (c.in-Inside.is, lt-ltb _ 6 if1.true, c.set_x.ensures, index.ensures.is)
 
 pub returns-else-i-lt6 : goal.returns-else-i-lt6
 unfolding referred
@@ -33,7 +33,7 @@ returns-then-i-lt6-2 c =
     let enum_told = c.enum_told-1 in
     let if2 = c.if-b-eq1 in
     let if3 = c.if-i-lt6-2 in
-    rw (enum_told.given.1, ← and_mask _ 1, ne_eqb _ 1 if2.false, lt-ltb _ 6 if3.true, c.set_x-then-i-lt6-2.ensures)
+    rw (c.in-Outside.is, ← and_mask _ 1, ne_eqb _ 1 if2.false, lt-ltb _ 6 if3.true, c.set_x-then-i-lt6-2.ensures)
 
 pub returns-else-i-lt6-2 : goal.returns-else-i-lt6-2
 unfolding referred

@@ -12,7 +12,7 @@ index-n-requires c =
     let args = c.args in
     let convert = c.convert in
     let a = c.a-1 in
-    subst (λ (p : Place). Within args.b p) (sym convert.ensures ∙ a.given.1) (place-within _ _)
+    subst (λ (p : Place). Within args.b p) (sym convert.ensures ∙ c.in-Inside.is) (place-within _ _)
 
 pub returns-in-Inside : goal.returns-in-Inside
 unfolding return_jumped

@@ -18,4 +18,4 @@ returns-in-7 c = rw (c.in-7.is, c.count_ones60.ensures, c.x_of.ensures.is)
 
 pub returns-in_default : goal.returns-in_default
 unfolding mask_or_count_of
-returns-in_default c = simp (ne_eqb _ _ c.in_default.rest.0.0.1, ne_eqb _ _ c.in_default.rest.0.1, ne_eqb _ _ c.in_default.rest.1)
+returns-in_default c = simp (ne_eqb _ _ c.in_default.not-3, ne_eqb _ _ c.in_default.not-6, ne_eqb _ _ c.in_default.not-7)

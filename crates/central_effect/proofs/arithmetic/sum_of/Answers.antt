@@ -14,7 +14,7 @@ returns-in-0 c =
     let floating-sum = c.floating_sum in
     let x-of = c.x_of-xj in
     let x-of2 = c.x_of-xk in
-    rw (match.keys1, c.result_to.ensures, floating-sum.ensures, x-of.ensures.is, x-of2.ensures.is)
+    rw (c.in-0.is, c.result_to.ensures, floating-sum.ensures, x-of.ensures.is, x-of2.ensures.is)
 
 pub returns-in-1 : goal.returns-in-1
 unfolding sum_of floating_sum_to
@@ -23,7 +23,7 @@ returns-in-1 c =
     let floating-sum2 = c.floating_sum-in-1 in
     let x-of = c.x_of-xj in
     let x-of2 = c.x_of-xk in
-    rw (match.keys2, c.result_to-in-1.ensures, floating-sum2.ensures, x-of.ensures.is, x-of2.ensures.is)
+    rw (c.in-1.is, c.result_to-in-1.ensures, floating-sum2.ensures, x-of.ensures.is, x-of2.ensures.is)
 
 pub returns-in-2 : goal.returns-in-2
 unfolding sum_of floating_sum_to
@@ -32,7 +32,7 @@ returns-in-2 c =
     let floating-sum3 = c.floating_sum-in-2 in
     let x-of = c.x_of-xj in
     let x-of2 = c.x_of-xk in
-    rw (match.keys3, c.result_to-in-2.ensures, floating-sum3.ensures, x-of.ensures.is, x-of2.ensures.is)
+    rw (c.in-2.is, c.result_to-in-2.ensures, floating-sum3.ensures, x-of.ensures.is, x-of2.ensures.is)
 
 pub returns-in-3 : goal.returns-in-3
 unfolding sum_of floating_sum_to
@@ -41,7 +41,7 @@ returns-in-3 c =
     let floating-sum4 = c.floating_sum-in-3 in
     let x-of = c.x_of-xj in
     let x-of2 = c.x_of-xk in
-    rw (match.keys4, c.result_to-in-3.ensures, floating-sum4.ensures, x-of.ensures.is, x-of2.ensures.is)
+    rw (c.in-3.is, c.result_to-in-3.ensures, floating-sum4.ensures, x-of.ensures.is, x-of2.ensures.is)
 
 pub returns-in-4 : goal.returns-in-4
 unfolding sum_of
@@ -57,7 +57,7 @@ returns-in-6 c =
     let match = c.in-6 in
     let x-of = c.x_of-xj in
     let x-of2 = c.x_of-xk in
-    rw (match.keys7, c.sum60.ensures, x-of.ensures.is, x-of2.ensures.is)
+    rw (c.in-6.is, c.sum60.ensures, x-of.ensures.is, x-of2.ensures.is)
 
 pub returns-in_default : goal.returns-in_default
 unfolding sum_of

@@ -1,7 +1,8 @@
 -- `central_effect::branches::effect_of` meets its contract.
+use Prim.Native.Nat.{◌≤◌}
+use native.Mathlib.Omega.{arith}
 use borrow.Author.Rules.{rules}
 use lib.ListN.{get_or-eq_default}
-use Rattle.base_logic.specs.Laws.Match.{none-le}
 use Rattle.central_effect.specs.Effects.{first_branches, branch_of}
 use Rattle.central_effect.proofs.branches.effect_of.Goals as goal
 
@@ -23,7 +24,7 @@ returns-in-3 c =
     let match = c.in-3 in
     let word-condition = c.word_condition in
     let x-of = c.x_of in
-    rw (match.keys4, c.jump_if.ensures, word-condition.ensures, x-of.ensures.is)
+    rw (c.in-3.is, c.jump_if.ensures, word-condition.ensures, x-of.ensures.is)
 
 pub returns-in_default : goal.returns-in_default
 unfolding branch_of
@@ -32,4 +33,4 @@ returns-in_default c =
     let b-of2 = c.b_of-in_default in
     let b-of3 = c.b_of-in_default-2 in
     let comparison = c.comparison in
-    rw (get_or-eq_default (first_branches _ _ _) _ (none-le 4 _ match.rest), c.jump_if-in_default.ensures, comparison.ensures, b-of3.ensures.is, b-of2.ensures.is)
+    rw (get_or-eq_default (first_branches _ _ _) _ (let past : 4 ≤ c.args.m = omega arith in past), c.jump_if-in_default.ensures, comparison.ensures, b-of3.ensures.is, b-of2.ensures.is)

@@ -25,7 +25,7 @@ returns-in-3 c =
     let x-of2 = c.x_of-in-3 in
     let low182 = c.low18-in-3 in
     let b-of2 = c.b_of-in-3 in
-    rw (match.keys4, c.sum18-in-3.ensures, low182.ensures, b-of2.ensures.is, x-of2.ensures.is)
+    rw (c.in-3.is, c.sum18-in-3.ensures, low182.ensures, b-of2.ensures.is, x-of2.ensures.is)
 
 pub returns-in-4 : goal.returns-in-4
 unfolding operand_of
@@ -37,7 +37,7 @@ returns-in-5 c =
     let match = c.in-5 in
     let a-of3 = c.a_of-in-5 in
     let b-of4 = c.b_of-in-5 in
-    rw (match.keys6, c.difference18.ensures, b-of4.ensures.is, a-of3.ensures.is)
+    rw (c.in-5.is, c.difference18.ensures, b-of4.ensures.is, a-of3.ensures.is)
 
 pub returns-in-6 : goal.returns-in-6
 unfolding operand_of

@@ -2,7 +2,6 @@
 use mathlib.Core.Path.{◌∙◌, sym}
 use native.Mathlib.Omega.{arith}
 use borrow.Author.Rules.{rules}
-use Rattle.base_logic.specs.Laws.Match.{last_arm}
 use Rattle.central_effect.specs.Laws.Effects.{effect-at-top}
 use Rattle.central_effect.proofs.listing.effect_of.Goals as goal
 
@@ -196,4 +195,4 @@ pub returns-in-62 : goal.returns-in-62
 returns-in-62 c = c.set_x-in-62.ensures ∙ sym (effect-at-top _ _ _ _ 0o76 c.in-62.is)
 
 pub returns-in_default : goal.returns-in_default
-returns-in_default c = c.set_x-in_default.ensures ∙ sym (effect-at-top _ _ _ _ 0o77 (last_arm 63 _ (omega arith) c.in_default.rest))
+returns-in_default c = c.set_x-in_default.ensures ∙ sym (effect-at-top _ _ _ _ 0o77 (omega arith))

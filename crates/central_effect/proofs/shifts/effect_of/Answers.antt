@@ -20,7 +20,7 @@ returns-in-2 c =
     let match = c.in-2 in
     let b-of = c.b_of in
     let x-of3 = c.x_of-in-2 in
-    rw (match.keys3, c.nominal.ensures, b-of.ensures.is, x-of3.ensures.is)
+    rw (c.in-2.is, c.nominal.ensures, b-of.ensures.is, x-of3.ensures.is)
 
 pub returns-in-3 : goal.returns-in-3
 unfolding shift_of
@@ -28,7 +28,7 @@ returns-in-3 c =
     let match = c.in-3 in
     let b-of2 = c.b_of-in-3 in
     let x-of4 = c.x_of-in-3 in
-    rw (match.keys4, c.nominal-in-3.ensures, b-of2.ensures.is, x-of4.ensures.is)
+    rw (c.in-3.is, c.nominal-in-3.ensures, b-of2.ensures.is, x-of4.ensures.is)
 
 pub returns-in-4 : goal.returns-in-4
 unfolding shift_of

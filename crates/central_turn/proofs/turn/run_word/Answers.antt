@@ -28,7 +28,7 @@ overflow_sub-v c =
     let loop-test = c.loop-remaining-test in
     let step = c.step in
     let next = c.next-1 in
-    omega (arith, (shifted-on _ _ _ (omega (arith, pre.fl_bound)) pre.p_lt_fl _ _ _ _ loop.invariant loop-test.true _ step.ensures _ next.given.1).0)
+    omega (arith, (shifted-on _ _ _ (omega (arith, pre.fl_bound)) pre.p_lt_fl _ _ _ _ loop.invariant loop-test.true _ step.ensures _ c.in-Next.is).0)
 
 pub overflow_shl-v-in-Next : goal.overflow_shl-v-in-Next
 overflow_shl-v-in-Next c = omega (arith, c.loop-remaining.invariant.total)
@@ -40,7 +40,7 @@ loop-remaining-smaller c =
     let loop-test = c.loop-remaining-test in
     let step = c.step in
     let next = c.next-1 in
-    (shifted-on _ _ _ (omega (arith, pre.fl_bound)) pre.p_lt_fl _ _ _ _ loop.invariant loop-test.true _ step.ensures _ next.given.1).0
+    (shifted-on _ _ _ (omega (arith, pre.fl_bound)) pre.p_lt_fl _ _ _ _ loop.invariant loop-test.true _ step.ensures _ c.in-Next.is).0
 
 pub loop-remaining-preserved : goal.loop-remaining-preserved
 loop-remaining-preserved c =
@@ -49,7 +49,7 @@ loop-remaining-preserved c =
     let loop-test = c.loop-remaining-test in
     let step = c.step in
     let next = c.next-1 in
-    (shifted-on _ _ _ (omega (arith, pre.fl_bound)) pre.p_lt_fl _ _ _ _ loop.invariant loop-test.true _ step.ensures _ next.given.1).1
+    (shifted-on _ _ _ (omega (arith, pre.fl_bound)) pre.p_lt_fl _ _ _ _ loop.invariant loop-test.true _ step.ensures _ c.in-Next.is).1
 
 pub shape_of-f-in-Branch : goal.shape_of-f-in-Branch
 shape_of-f-in-Branch c =
@@ -65,7 +65,7 @@ returns-in-Branch c =
     let loop-test = c.loop-remaining-test in
     let step = c.step in
     let target = c.target-1 in
-    shifted-branch _ _ _ (omega (arith, pre.fl_bound)) pre.p_lt_fl _ _ _ _ loop.invariant loop-test.true _ step.ensures _ target.given.1
+    shifted-branch _ _ _ (omega (arith, pre.fl_bound)) pre.p_lt_fl _ _ _ _ loop.invariant loop-test.true _ step.ensures _ c.in-Branch.is
 
 pub shape_of-f-in-Stop : goal.shape_of-f-in-Stop
 shape_of-f-in-Stop c =
@@ -82,7 +82,7 @@ returns-in-Stop c =
     let step = c.step in
     let s = c.s-1 in
     let number = c.number in
-    rw number.ensures (shifted-stop _ _ _ (omega (arith, pre.fl_bound)) pre.p_lt_fl _ _ _ _ loop.invariant loop-test.true _ step.ensures _ s.given.1)
+    rw number.ensures (shifted-stop _ _ _ (omega (arith, pre.fl_bound)) pre.p_lt_fl _ _ _ _ loop.invariant loop-test.true _ step.ensures _ c.in-Stop.is)
 
 pub overflow_add-result : goal.overflow_add-result
 overflow_add-result c = omega (arith, c.requires.1)

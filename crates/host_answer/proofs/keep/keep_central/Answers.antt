@@ -10,7 +10,7 @@ pub returns-in-Accepted : goal.returns-in-Accepted
 returns-in-Accepted c =
     let enum_told = c.enum_told-1 in
     let store-central = c.store_central in
-    kept-accepted _ _ _ _ enum_told.given.1 store-central.ensures
+    kept-accepted _ _ _ _ c.in-Accepted.is store-central.ensures
 
 pub returns-in-Refused : goal.returns-in-Refused
 returns-in-Refused c = kept-refused _ _ _ _ _ c.in-Refused.is c.number.ensures

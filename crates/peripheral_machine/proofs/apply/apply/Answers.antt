@@ -21,7 +21,7 @@ pub set_parts-requires : goal.set_parts-requires
 set_parts-requires c =
     let pre = c.requires in
     let e3 = c.e-in-ReadCentral-1 in
-    omega (arith, (subst (PeripheralSound _) e3.given.1 pre.peripheral_sound).1, pre.m_len)
+    omega (arith, (subst (PeripheralSound _) c.in-ReadCentral.is pre.peripheral_sound).1, pre.m_len)
 
 pub offset_bounds-c-at : goal.offset_bounds-c-at
 offset_bounds-c-at c = let h = (subst (PeripheralSound _) c.in-WriteCentral.is c.requires.peripheral_sound).1.0 in search rules
@@ -36,7 +36,7 @@ pub exchange_at-requires : goal.exchange_at-requires
 exchange_at-requires c =
     let pre = c.requires in
     let e6 = c.e-in-Exchange-1 in
-    record { at_in_bounds = (subst (PeripheralSound _) e6.given.1 pre.peripheral_sound).1.inside; fits_package = pre.fits_package }
+    record { at_in_bounds = (subst (PeripheralSound _) c.in-Exchange.is pre.peripheral_sound).1.inside; fits_package = pre.fits_package }
 
 pub returns-in-Advance : goal.returns-in-Advance
 unfolding peripheral_applied
@@ -51,7 +51,7 @@ unfolding peripheral_applied
 returns-in-ReadCentral c =
     let e3 = c.e-in-ReadCentral-1 in
     let set-parts = c.set_parts in
-    rw (e3.given.1, c.advance-in-ReadCentral.ensures, set-parts.ensures)
+    rw (c.in-ReadCentral.is, c.advance-in-ReadCentral.ensures, set-parts.ensures)
 
 pub returns-in-WriteCentral : goal.returns-in-WriteCentral
 unfolding peripheral_applied
@@ -66,7 +66,7 @@ unfolding peripheral_applied
 returns-in-Exchange c =
     let e6 = c.e-in-Exchange-1 in
     let exchange-at = c.exchange_at in
-    rw (e6.given.1, c.advance-in-Exchange.ensures, ← exchange-at.ensures)
+    rw (c.in-Exchange.is, c.advance-in-Exchange.ensures, ← exchange-at.ensures)
 
 pub returns-in-Wait : goal.returns-in-Wait
 unfolding peripheral_applied

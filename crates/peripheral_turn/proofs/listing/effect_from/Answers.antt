@@ -1,201 +1,264 @@
 -- `peripheral_turn::listing::effect_from` meets its contract: what the arms ask for, then what each of the 64 gives.
 use mathlib.Core.Path.{◌∙◌, sym}
 use native.Mathlib.Omega.{arith}
-use Rattle.base_logic.specs.Laws.Match.{last_arm}
 use Rattle.peripheral_turn.specs.Laws.Effects.{effect-by-code}
 use Rattle.peripheral_turn.proofs.listing.effect_from.Goals as goal
 
 pub jump_of-requires : goal.jump_of-requires
-jump_of-requires c = let pre = c.requires in (pre.memory, (pre.held, (omega arith, omega arith)))
+jump_of-requires c = let pre = c.requires in
+    record { memory = pre.memory; held = pre.held; k_bound = omega arith; d_bound = omega arith }
 
 pub jump_of-requires-in-1 : goal.jump_of-requires-in-1
-jump_of-requires-in-1 c = let pre = c.requires in (pre.memory, (pre.held, (omega arith, omega arith)))
+jump_of-requires-in-1 c = let pre = c.requires in
+    record { memory = pre.memory; held = pre.held; k_bound = omega arith; d_bound = omega arith }
 
 pub jump_of-requires-in-2 : goal.jump_of-requires-in-2
-jump_of-requires-in-2 c = let pre = c.requires in (pre.memory, (pre.held, (omega arith, omega arith)))
+jump_of-requires-in-2 c = let pre = c.requires in
+    record { memory = pre.memory; held = pre.held; k_bound = omega arith; d_bound = omega arith }
 
 pub jump_of-requires-in-3 : goal.jump_of-requires-in-3
-jump_of-requires-in-3 c = let pre = c.requires in (pre.memory, (pre.held, (omega arith, omega arith)))
+jump_of-requires-in-3 c = let pre = c.requires in
+    record { memory = pre.memory; held = pre.held; k_bound = omega arith; d_bound = omega arith }
 
 pub jump_of-requires-in-4 : goal.jump_of-requires-in-4
-jump_of-requires-in-4 c = let pre = c.requires in (pre.memory, (pre.held, (omega arith, omega arith)))
+jump_of-requires-in-4 c = let pre = c.requires in
+    record { memory = pre.memory; held = pre.held; k_bound = omega arith; d_bound = omega arith }
 
 pub jump_of-requires-in-5 : goal.jump_of-requires-in-5
-jump_of-requires-in-5 c = let pre = c.requires in (pre.memory, (pre.held, (omega arith, omega arith)))
+jump_of-requires-in-5 c = let pre = c.requires in
+    record { memory = pre.memory; held = pre.held; k_bound = omega arith; d_bound = omega arith }
 
 pub jump_of-requires-in-6 : goal.jump_of-requires-in-6
-jump_of-requires-in-6 c = let pre = c.requires in (pre.memory, (pre.held, (omega arith, omega arith)))
+jump_of-requires-in-6 c = let pre = c.requires in
+    record { memory = pre.memory; held = pre.held; k_bound = omega arith; d_bound = omega arith }
 
 pub jump_of-requires-in-7 : goal.jump_of-requires-in-7
-jump_of-requires-in-7 c = let pre = c.requires in (pre.memory, (pre.held, (omega arith, omega arith)))
+jump_of-requires-in-7 c = let pre = c.requires in
+    record { memory = pre.memory; held = pre.held; k_bound = omega arith; d_bound = omega arith }
 
 pub short_of-requires : goal.short_of-requires
-short_of-requires c = let pre = c.requires in (pre.held, (omega arith, omega arith))
+short_of-requires c = let pre = c.requires in
+    record { held = pre.held; k_bound = omega arith; d_bound = omega arith }
 
 pub short_of-requires-in-9 : goal.short_of-requires-in-9
-short_of-requires-in-9 c = let pre = c.requires in (pre.held, (omega arith, omega arith))
+short_of-requires-in-9 c = let pre = c.requires in
+    record { held = pre.held; k_bound = omega arith; d_bound = omega arith }
 
 pub short_of-requires-in-10 : goal.short_of-requires-in-10
-short_of-requires-in-10 c = let pre = c.requires in (pre.held, (omega arith, omega arith))
+short_of-requires-in-10 c = let pre = c.requires in
+    record { held = pre.held; k_bound = omega arith; d_bound = omega arith }
 
 pub short_of-requires-in-11 : goal.short_of-requires-in-11
-short_of-requires-in-11 c = let pre = c.requires in (pre.held, (omega arith, omega arith))
+short_of-requires-in-11 c = let pre = c.requires in
+    record { held = pre.held; k_bound = omega arith; d_bound = omega arith }
 
 pub short_of-requires-in-12 : goal.short_of-requires-in-12
-short_of-requires-in-12 c = let pre = c.requires in (pre.held, (omega arith, omega arith))
+short_of-requires-in-12 c = let pre = c.requires in
+    record { held = pre.held; k_bound = omega arith; d_bound = omega arith }
 
 pub short_of-requires-in-13 : goal.short_of-requires-in-13
-short_of-requires-in-13 c = let pre = c.requires in (pre.held, (omega arith, omega arith))
+short_of-requires-in-13 c = let pre = c.requires in
+    record { held = pre.held; k_bound = omega arith; d_bound = omega arith }
 
 pub short_of-requires-in-14 : goal.short_of-requires-in-14
-short_of-requires-in-14 c = let pre = c.requires in (pre.held, (omega arith, omega arith))
+short_of-requires-in-14 c = let pre = c.requires in
+    record { held = pre.held; k_bound = omega arith; d_bound = omega arith }
 
 pub short_of-requires-in-15 : goal.short_of-requires-in-15
-short_of-requires-in-15 c = let pre = c.requires in (pre.held, (omega arith, omega arith))
+short_of-requires-in-15 c = let pre = c.requires in
+    record { held = pre.held; k_bound = omega arith; d_bound = omega arith }
 
 pub second_row-requires : goal.second_row-requires
-second_row-requires c = let pre = c.requires in (pre.memory, (pre.held, (omega arith, omega arith)))
+second_row-requires c = let pre = c.requires in
+    record { memory = pre.memory; held = pre.held; k_bound = omega arith; d_bound = omega arith }
 
 pub second_row-requires-in-17 : goal.second_row-requires-in-17
-second_row-requires-in-17 c = let pre = c.requires in (pre.memory, (pre.held, (omega arith, omega arith)))
+second_row-requires-in-17 c = let pre = c.requires in
+    record { memory = pre.memory; held = pre.held; k_bound = omega arith; d_bound = omega arith }
 
 pub second_row-requires-in-18 : goal.second_row-requires-in-18
-second_row-requires-in-18 c = let pre = c.requires in (pre.memory, (pre.held, (omega arith, omega arith)))
+second_row-requires-in-18 c = let pre = c.requires in
+    record { memory = pre.memory; held = pre.held; k_bound = omega arith; d_bound = omega arith }
 
 pub second_row-requires-in-19 : goal.second_row-requires-in-19
-second_row-requires-in-19 c = let pre = c.requires in (pre.memory, (pre.held, (omega arith, omega arith)))
+second_row-requires-in-19 c = let pre = c.requires in
+    record { memory = pre.memory; held = pre.held; k_bound = omega arith; d_bound = omega arith }
 
 pub second_row-requires-in-20 : goal.second_row-requires-in-20
-second_row-requires-in-20 c = let pre = c.requires in (pre.memory, (pre.held, (omega arith, omega arith)))
+second_row-requires-in-20 c = let pre = c.requires in
+    record { memory = pre.memory; held = pre.held; k_bound = omega arith; d_bound = omega arith }
 
 pub second_row-requires-in-21 : goal.second_row-requires-in-21
-second_row-requires-in-21 c = let pre = c.requires in (pre.memory, (pre.held, (omega arith, omega arith)))
+second_row-requires-in-21 c = let pre = c.requires in
+    record { memory = pre.memory; held = pre.held; k_bound = omega arith; d_bound = omega arith }
 
 pub second_row-requires-in-22 : goal.second_row-requires-in-22
-second_row-requires-in-22 c = let pre = c.requires in (pre.memory, (pre.held, (omega arith, omega arith)))
+second_row-requires-in-22 c = let pre = c.requires in
+    record { memory = pre.memory; held = pre.held; k_bound = omega arith; d_bound = omega arith }
 
 pub second_row-requires-in-23 : goal.second_row-requires-in-23
-second_row-requires-in-23 c = let pre = c.requires in (pre.memory, (pre.held, (omega arith, omega arith)))
+second_row-requires-in-23 c = let pre = c.requires in
+    record { memory = pre.memory; held = pre.held; k_bound = omega arith; d_bound = omega arith }
 
 pub direct-requires : goal.direct-requires
-direct-requires c = let pre = c.requires in (pre.memory, (pre.held, (omega arith, omega arith)))
+direct-requires c = let pre = c.requires in
+    record { memory = pre.memory; held = pre.held; k_bound = omega arith; d_bound = omega arith }
 
 pub direct-requires-in-25 : goal.direct-requires-in-25
-direct-requires-in-25 c = let pre = c.requires in (pre.memory, (pre.held, (omega arith, omega arith)))
+direct-requires-in-25 c = let pre = c.requires in
+    record { memory = pre.memory; held = pre.held; k_bound = omega arith; d_bound = omega arith }
 
 pub direct-requires-in-26 : goal.direct-requires-in-26
-direct-requires-in-26 c = let pre = c.requires in (pre.memory, (pre.held, (omega arith, omega arith)))
+direct-requires-in-26 c = let pre = c.requires in
+    record { memory = pre.memory; held = pre.held; k_bound = omega arith; d_bound = omega arith }
 
 pub direct-requires-in-27 : goal.direct-requires-in-27
-direct-requires-in-27 c = let pre = c.requires in (pre.memory, (pre.held, (omega arith, omega arith)))
+direct-requires-in-27 c = let pre = c.requires in
+    record { memory = pre.memory; held = pre.held; k_bound = omega arith; d_bound = omega arith }
 
 pub direct-requires-in-28 : goal.direct-requires-in-28
-direct-requires-in-28 c = let pre = c.requires in (pre.memory, (pre.held, (omega arith, omega arith)))
+direct-requires-in-28 c = let pre = c.requires in
+    record { memory = pre.memory; held = pre.held; k_bound = omega arith; d_bound = omega arith }
 
 pub direct-requires-in-29 : goal.direct-requires-in-29
-direct-requires-in-29 c = let pre = c.requires in (pre.memory, (pre.held, (omega arith, omega arith)))
+direct-requires-in-29 c = let pre = c.requires in
+    record { memory = pre.memory; held = pre.held; k_bound = omega arith; d_bound = omega arith }
 
 pub direct-requires-in-30 : goal.direct-requires-in-30
-direct-requires-in-30 c = let pre = c.requires in (pre.memory, (pre.held, (omega arith, omega arith)))
+direct-requires-in-30 c = let pre = c.requires in
+    record { memory = pre.memory; held = pre.held; k_bound = omega arith; d_bound = omega arith }
 
 pub direct-requires-in-31 : goal.direct-requires-in-31
-direct-requires-in-31 c = let pre = c.requires in (pre.memory, (pre.held, (omega arith, omega arith)))
+direct-requires-in-31 c = let pre = c.requires in
+    record { memory = pre.memory; held = pre.held; k_bound = omega arith; d_bound = omega arith }
 
 pub indirect-requires : goal.indirect-requires
-indirect-requires c = let pre = c.requires in (pre.memory, (pre.held, (omega arith, omega arith)))
+indirect-requires c = let pre = c.requires in
+    record { memory = pre.memory; held = pre.held; k_bound = omega arith; d_bound = omega arith }
 
 pub indirect-requires-in-33 : goal.indirect-requires-in-33
-indirect-requires-in-33 c = let pre = c.requires in (pre.memory, (pre.held, (omega arith, omega arith)))
+indirect-requires-in-33 c = let pre = c.requires in
+    record { memory = pre.memory; held = pre.held; k_bound = omega arith; d_bound = omega arith }
 
 pub indirect-requires-in-34 : goal.indirect-requires-in-34
-indirect-requires-in-34 c = let pre = c.requires in (pre.memory, (pre.held, (omega arith, omega arith)))
+indirect-requires-in-34 c = let pre = c.requires in
+    record { memory = pre.memory; held = pre.held; k_bound = omega arith; d_bound = omega arith }
 
 pub indirect-requires-in-35 : goal.indirect-requires-in-35
-indirect-requires-in-35 c = let pre = c.requires in (pre.memory, (pre.held, (omega arith, omega arith)))
+indirect-requires-in-35 c = let pre = c.requires in
+    record { memory = pre.memory; held = pre.held; k_bound = omega arith; d_bound = omega arith }
 
 pub indirect-requires-in-36 : goal.indirect-requires-in-36
-indirect-requires-in-36 c = let pre = c.requires in (pre.memory, (pre.held, (omega arith, omega arith)))
+indirect-requires-in-36 c = let pre = c.requires in
+    record { memory = pre.memory; held = pre.held; k_bound = omega arith; d_bound = omega arith }
 
 pub indirect-requires-in-37 : goal.indirect-requires-in-37
-indirect-requires-in-37 c = let pre = c.requires in (pre.memory, (pre.held, (omega arith, omega arith)))
+indirect-requires-in-37 c = let pre = c.requires in
+    record { memory = pre.memory; held = pre.held; k_bound = omega arith; d_bound = omega arith }
 
 pub indirect-requires-in-38 : goal.indirect-requires-in-38
-indirect-requires-in-38 c = let pre = c.requires in (pre.memory, (pre.held, (omega arith, omega arith)))
+indirect-requires-in-38 c = let pre = c.requires in
+    record { memory = pre.memory; held = pre.held; k_bound = omega arith; d_bound = omega arith }
 
 pub indirect-requires-in-39 : goal.indirect-requires-in-39
-indirect-requires-in-39 c = let pre = c.requires in (pre.memory, (pre.held, (omega arith, omega arith)))
+indirect-requires-in-39 c = let pre = c.requires in
+    record { memory = pre.memory; held = pre.held; k_bound = omega arith; d_bound = omega arith }
 
 pub indexed_direct-requires : goal.indexed_direct-requires
-indexed_direct-requires c = let pre = c.requires in (pre.memory, (pre.held, (omega arith, omega arith)))
+indexed_direct-requires c = let pre = c.requires in
+    record { memory = pre.memory; held = pre.held; k_bound = omega arith; d_bound = omega arith }
 
 pub indexed_direct-requires-in-41 : goal.indexed_direct-requires-in-41
-indexed_direct-requires-in-41 c = let pre = c.requires in (pre.memory, (pre.held, (omega arith, omega arith)))
+indexed_direct-requires-in-41 c = let pre = c.requires in
+    record { memory = pre.memory; held = pre.held; k_bound = omega arith; d_bound = omega arith }
 
 pub indexed_direct-requires-in-42 : goal.indexed_direct-requires-in-42
-indexed_direct-requires-in-42 c = let pre = c.requires in (pre.memory, (pre.held, (omega arith, omega arith)))
+indexed_direct-requires-in-42 c = let pre = c.requires in
+    record { memory = pre.memory; held = pre.held; k_bound = omega arith; d_bound = omega arith }
 
 pub indexed_direct-requires-in-43 : goal.indexed_direct-requires-in-43
-indexed_direct-requires-in-43 c = let pre = c.requires in (pre.memory, (pre.held, (omega arith, omega arith)))
+indexed_direct-requires-in-43 c = let pre = c.requires in
+    record { memory = pre.memory; held = pre.held; k_bound = omega arith; d_bound = omega arith }
 
 pub indexed_direct-requires-in-44 : goal.indexed_direct-requires-in-44
-indexed_direct-requires-in-44 c = let pre = c.requires in (pre.memory, (pre.held, (omega arith, omega arith)))
+indexed_direct-requires-in-44 c = let pre = c.requires in
+    record { memory = pre.memory; held = pre.held; k_bound = omega arith; d_bound = omega arith }
 
 pub indexed_direct-requires-in-45 : goal.indexed_direct-requires-in-45
-indexed_direct-requires-in-45 c = let pre = c.requires in (pre.memory, (pre.held, (omega arith, omega arith)))
+indexed_direct-requires-in-45 c = let pre = c.requires in
+    record { memory = pre.memory; held = pre.held; k_bound = omega arith; d_bound = omega arith }
 
 pub indexed_direct-requires-in-46 : goal.indexed_direct-requires-in-46
-indexed_direct-requires-in-46 c = let pre = c.requires in (pre.memory, (pre.held, (omega arith, omega arith)))
+indexed_direct-requires-in-46 c = let pre = c.requires in
+    record { memory = pre.memory; held = pre.held; k_bound = omega arith; d_bound = omega arith }
 
 pub indexed_direct-requires-in-47 : goal.indexed_direct-requires-in-47
-indexed_direct-requires-in-47 c = let pre = c.requires in (pre.memory, (pre.held, (omega arith, omega arith)))
+indexed_direct-requires-in-47 c = let pre = c.requires in
+    record { memory = pre.memory; held = pre.held; k_bound = omega arith; d_bound = omega arith }
 
 pub sixth_row-requires : goal.sixth_row-requires
-sixth_row-requires c = let pre = c.requires in (pre.memory, (pre.held, (omega arith, omega arith)))
+sixth_row-requires c = let pre = c.requires in
+    record { memory = pre.memory; held = pre.held; k_bound = omega arith; d_bound = omega arith }
 
 pub sixth_row-requires-in-49 : goal.sixth_row-requires-in-49
-sixth_row-requires-in-49 c = let pre = c.requires in (pre.memory, (pre.held, (omega arith, omega arith)))
+sixth_row-requires-in-49 c = let pre = c.requires in
+    record { memory = pre.memory; held = pre.held; k_bound = omega arith; d_bound = omega arith }
 
 pub sixth_row-requires-in-50 : goal.sixth_row-requires-in-50
-sixth_row-requires-in-50 c = let pre = c.requires in (pre.memory, (pre.held, (omega arith, omega arith)))
+sixth_row-requires-in-50 c = let pre = c.requires in
+    record { memory = pre.memory; held = pre.held; k_bound = omega arith; d_bound = omega arith }
 
 pub sixth_row-requires-in-51 : goal.sixth_row-requires-in-51
-sixth_row-requires-in-51 c = let pre = c.requires in (pre.memory, (pre.held, (omega arith, omega arith)))
+sixth_row-requires-in-51 c = let pre = c.requires in
+    record { memory = pre.memory; held = pre.held; k_bound = omega arith; d_bound = omega arith }
 
 pub sixth_row-requires-in-52 : goal.sixth_row-requires-in-52
-sixth_row-requires-in-52 c = let pre = c.requires in (pre.memory, (pre.held, (omega arith, omega arith)))
+sixth_row-requires-in-52 c = let pre = c.requires in
+    record { memory = pre.memory; held = pre.held; k_bound = omega arith; d_bound = omega arith }
 
 pub sixth_row-requires-in-53 : goal.sixth_row-requires-in-53
-sixth_row-requires-in-53 c = let pre = c.requires in (pre.memory, (pre.held, (omega arith, omega arith)))
+sixth_row-requires-in-53 c = let pre = c.requires in
+    record { memory = pre.memory; held = pre.held; k_bound = omega arith; d_bound = omega arith }
 
 pub sixth_row-requires-in-54 : goal.sixth_row-requires-in-54
-sixth_row-requires-in-54 c = let pre = c.requires in (pre.memory, (pre.held, (omega arith, omega arith)))
+sixth_row-requires-in-54 c = let pre = c.requires in
+    record { memory = pre.memory; held = pre.held; k_bound = omega arith; d_bound = omega arith }
 
 pub sixth_row-requires-in-55 : goal.sixth_row-requires-in-55
-sixth_row-requires-in-55 c = let pre = c.requires in (pre.memory, (pre.held, (omega arith, omega arith)))
+sixth_row-requires-in-55 c = let pre = c.requires in
+    record { memory = pre.memory; held = pre.held; k_bound = omega arith; d_bound = omega arith }
 
 pub seventh_row-requires : goal.seventh_row-requires
-seventh_row-requires c = let pre = c.requires in (pre.memory, (pre.held, omega arith))
+seventh_row-requires c = let pre = c.requires in
+    record { memory = pre.memory; held = pre.held; k_bound = omega arith }
 
 pub seventh_row-requires-in-57 : goal.seventh_row-requires-in-57
-seventh_row-requires-in-57 c = let pre = c.requires in (pre.memory, (pre.held, omega arith))
+seventh_row-requires-in-57 c = let pre = c.requires in
+    record { memory = pre.memory; held = pre.held; k_bound = omega arith }
 
 pub seventh_row-requires-in-58 : goal.seventh_row-requires-in-58
-seventh_row-requires-in-58 c = let pre = c.requires in (pre.memory, (pre.held, omega arith))
+seventh_row-requires-in-58 c = let pre = c.requires in
+    record { memory = pre.memory; held = pre.held; k_bound = omega arith }
 
 pub seventh_row-requires-in-59 : goal.seventh_row-requires-in-59
-seventh_row-requires-in-59 c = let pre = c.requires in (pre.memory, (pre.held, omega arith))
+seventh_row-requires-in-59 c = let pre = c.requires in
+    record { memory = pre.memory; held = pre.held; k_bound = omega arith }
 
 pub seventh_row-requires-in-60 : goal.seventh_row-requires-in-60
-seventh_row-requires-in-60 c = let pre = c.requires in (pre.memory, (pre.held, omega arith))
+seventh_row-requires-in-60 c = let pre = c.requires in
+    record { memory = pre.memory; held = pre.held; k_bound = omega arith }
 
 pub seventh_row-requires-in-61 : goal.seventh_row-requires-in-61
-seventh_row-requires-in-61 c = let pre = c.requires in (pre.memory, (pre.held, omega arith))
+seventh_row-requires-in-61 c = let pre = c.requires in
+    record { memory = pre.memory; held = pre.held; k_bound = omega arith }
 
 pub seventh_row-requires-in-62 : goal.seventh_row-requires-in-62
-seventh_row-requires-in-62 c = let pre = c.requires in (pre.memory, (pre.held, omega arith))
+seventh_row-requires-in-62 c = let pre = c.requires in
+    record { memory = pre.memory; held = pre.held; k_bound = omega arith }
 
 pub seventh_row-requires-in_default : goal.seventh_row-requires-in_default
-seventh_row-requires-in_default c = let pre = c.requires in (pre.memory, (pre.held, omega arith))
+seventh_row-requires-in_default c = let pre = c.requires in
+    record { memory = pre.memory; held = pre.held; k_bound = omega arith }
 
 pub returns-in-0 : goal.returns-in-0
 returns-in-0 c = c.jump_of.ensures ∙ sym (effect-by-code _ _ _ _ _ 0o00 c.in-0.is)
@@ -387,4 +450,4 @@ pub returns-in-62 : goal.returns-in-62
 returns-in-62 c = c.seventh_row-in-62.ensures ∙ sym (effect-by-code _ _ _ _ _ 0o76 c.in-62.is)
 
 pub returns-in_default : goal.returns-in_default
-returns-in_default c = c.seventh_row-in_default.ensures ∙ sym (effect-by-code _ _ _ _ _ 0o77 (last_arm 63 _ (omega arith) c.in_default.rest))
+returns-in_default c = c.seventh_row-in_default.ensures ∙ sym (effect-by-code _ _ _ _ _ 0o77 (omega arith))

@@ -1,7 +1,8 @@
 -- `peripheral_turn::rows::sixth_row` meets its contract.
+use Prim.Native.Nat.{◌≤◌}
+use native.Mathlib.Omega.{arith}
 use borrow.Author.Rules.{rules}
 use lib.ListN.{get_or-eq_default}
-use Rattle.base_logic.specs.Laws.Match.{none-le}
 use Rattle.peripheral_turn.specs.Turn.{sixth_row_of, central_words}
 use Rattle.peripheral_turn.proofs.rows.sixth_row.Goals as goal
 
@@ -23,4 +24,4 @@ returns-in-3 c = rw c.in-3.is
 
 pub returns-in_default : goal.returns-in_default
 unfolding sixth_row_of
-returns-in_default c = rw (get_or-eq_default (central_words _ _ _ _) _ (none-le 4 _ c.in_default.rest)) c.channel_jump.ensures
+returns-in_default c = rw (get_or-eq_default (central_words _ _ _ _) _ (let past : 4 ≤ c.args.k = omega arith in past)) c.channel_jump.ensures

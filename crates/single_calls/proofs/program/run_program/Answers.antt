@@ -14,7 +14,7 @@ returns-in-Accepted c =
     let program-verdict = c.program_verdict in
     let enum_told = c.enum_told-1 in
     let stint = c.stint-o in
-    rw (← program-verdict.ensures, enum_told.given.1, ← stint.ensures)
+    rw (← program-verdict.ensures, c.in-Accepted.is, ← stint.ensures)
 
 pub returns-in-Refused : goal.returns-in-Refused
 unfolding program_answer

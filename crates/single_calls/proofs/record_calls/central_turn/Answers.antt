@@ -17,7 +17,7 @@ returns-in-Accepted c =
     let host-verdict = c.host_verdict in
     let enum_told = c.enum_told-1 in
     let turns-if-running = c.turns_if_running-o in
-    rw (← host-verdict.ensures, enum_told.given.1)
+    rw (← host-verdict.ensures, c.in-Accepted.is)
     (ap (λ (o : Turned). central_answered Call.Accepted o.machine) (turns-if-running.ensures ∙ one-turn _ _))
 
 pub returns-in-Refused : goal.returns-in-Refused

@@ -14,7 +14,7 @@ returns-in-Accepted c =
     let turns-verdict = c.turns_verdict in
     let enum_told = c.enum_told-1 in
     let turns-if-running = c.turns_if_running-o in
-    rw (← turns-verdict.ensures, enum_told.given.1, ← turns-if-running.ensures)
+    rw (← turns-verdict.ensures, c.in-Accepted.is, ← turns-if-running.ensures)
 
 pub returns-in-Refused : goal.returns-in-Refused
 unfolding turns_answer

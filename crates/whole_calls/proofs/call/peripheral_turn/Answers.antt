@@ -14,7 +14,7 @@ returns-in-Accepted c =
     let turn-verdict = c.turn_verdict in
     let enum_told = c.enum_told-1 in
     let turn = c.turn-after in
-    carried-out turn_given _ _ _ (sym turn-verdict.ensures ∙ enum_told.given.1) (left _ _ _) turn.ensures
+    carried-out turn_given _ _ _ (sym turn-verdict.ensures ∙ c.in-Accepted.is) (left _ _ _) turn.ensures
 
 pub returns-in-Refused : goal.returns-in-Refused
 unfolding peripheral_turn_answer

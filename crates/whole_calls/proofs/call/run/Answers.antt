@@ -14,7 +14,7 @@ returns-in-Accepted c =
     let run-verdict = c.run_verdict in
     let enum_told = c.enum_told-1 in
     let make-rounds = c.make_rounds-o in
-    carried-out run_given _ _ _ (sym run-verdict.ensures ∙ enum_told.given.1) (left _ _ _) make-rounds.ensures
+    carried-out run_given _ _ _ (sym run-verdict.ensures ∙ c.in-Accepted.is) (left _ _ _) make-rounds.ensures
 
 pub returns-in-Refused : goal.returns-in-Refused
 unfolding run_answer
