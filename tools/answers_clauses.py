@@ -32,6 +32,9 @@ def turn(path, lts, rust):
                             block = re.sub(rf"(?<![\w.-]){name}\." + re.escape(".".join(way)) + r"(?![\w.-])", f"c.{arm[0]}.{field}", block)
             if re.match(r"in-", step):
                 block = re.sub(rf"(?<![\w.-]){name}\.keys\d", f"{name}.is", block)
+        for line, name in re.findall(r"(^ *let ([\w-]+) = c\.[\w.-]+ in\n)", block, re.M):
+            if not re.search(rf"(?<![\w.-]){name}(?![\w-])", block.replace(line, "", 1)):
+                block = block.replace(line, "", 1)
         m = re.search(r"^pub ([\w-]+) : goal\.", block, re.M)
         callee = names.callee(m.group(1)) if m else None
         if callee and len(CLAUSES.get(callee, [])) > 1:

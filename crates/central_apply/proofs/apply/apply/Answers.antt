@@ -8,13 +8,11 @@ use Rattle.central_apply.proofs.apply.apply.Goals as goal
 pub return_jump-requires : goal.return_jump-requires
 return_jump-requires c =
     let pre = c.requires in
-    let e3 = c.e-in-ReturnJump-1 in
     record { lent = pre.lent; target_bound = (subst CentralSound c.in-ReturnJump.is pre.central_sound).0 }
 
 pub set_a-requires : goal.set_a-requires
 set_a-requires c =
     let pre = c.requires in
-    let e4 = c.e-in-SetA-1 in
     record { i_bound = (subst CentralSound c.in-SetA.is pre.central_sound).0; lent = pre.lent }
 
 pub set_b-requires : goal.set_b-requires
@@ -29,7 +27,6 @@ set_x-requires-in-SetXB c = (subst CentralSound c.in-SetXB.is c.requires.central
 pub set_b-requires-in-SetXB : goal.set_b-requires-in-SetXB
 set_b-requires-in-SetXB c =
     let pre = c.requires in
-    let e7 = c.e-in-SetXB-1 in
     (subst CentralSound c.in-SetXB.is pre.central_sound).1.0
 
 pub returns-in-Pass : goal.returns-in-Pass

@@ -18,7 +18,6 @@ returns-then-b-eq1 c = rw (c.in-Outside.is, ← and_mask _ 1, eq-eqb _ 1 c.if-b-
 pub returns-then-i-lt6 : goal.returns-then-i-lt6
 unfolding referred
 returns-then-i-lt6 c =
-    let p = c.p-1 in
     let index = c.index-n in
     let if1 = c.if-i-lt6 in
     rw (c.in-Inside.is, lt-ltb _ 6 if1.true, c.set_x.ensures, index.ensures.is)
@@ -30,7 +29,6 @@ returns-else-i-lt6 c = rw (c.in-Inside.is, le-ltb _ 6 c.if-i-lt6.false, c.index-
 pub returns-then-i-lt6-2 : goal.returns-then-i-lt6-2
 unfolding referred
 returns-then-i-lt6-2 c =
-    let enum_told = c.enum_told-1 in
     let if2 = c.if-b-eq1 in
     let if3 = c.if-i-lt6-2 in
     rw (c.in-Outside.is, ← and_mask _ 1, ne_eqb _ 1 if2.false, lt-ltb _ 6 if3.true, c.set_x-then-i-lt6-2.ensures)

@@ -11,7 +11,6 @@ pub index-n-requires : goal.index-n-requires
 index-n-requires c =
     let args = c.args in
     let convert = c.convert in
-    let a = c.a-1 in
     subst (λ (p : Place). Within args.b p) (sym convert.ensures ∙ c.in-Inside.is) (place-within _ _)
 
 pub returns-in-Inside : goal.returns-in-Inside

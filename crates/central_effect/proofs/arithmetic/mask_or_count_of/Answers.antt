@@ -1,4 +1,7 @@
 -- `central_effect::arithmetic::mask_or_count_of` meets its contract.
+use Prim.Native.Nat.{ℕ}
+use mathlib.Core.Path.{◌≡◌}
+use native.Mathlib.Omega.{arith}
 use borrow.Author.Tests.{ne_eqb}
 use borrow.Author.Rules.{rules}
 use Rattle.central_effect.specs.Effects.{mask_or_count_of}
@@ -18,4 +21,8 @@ returns-in-7 c = rw (c.in-7.is, c.count_ones60.ensures, c.x_of.ensures.is)
 
 pub returns-in_default : goal.returns-in_default
 unfolding mask_or_count_of
-returns-in_default c = simp (ne_eqb _ _ c.in_default.not-3, ne_eqb _ _ c.in_default.not-6, ne_eqb _ _ c.in_default.not-7)
+returns-in_default c =
+    let not-3 : c.args.m ≡ 3 → ⊥ = omega arith in
+    let not-6 : c.args.m ≡ 6 → ⊥ = omega arith in
+    let not-7 : c.args.m ≡ 7 → ⊥ = omega arith in
+    simp (ne_eqb _ _ not-3, ne_eqb _ _ not-6, ne_eqb _ _ not-7)

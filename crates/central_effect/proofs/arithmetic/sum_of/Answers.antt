@@ -10,7 +10,6 @@ use Rattle.central_effect.proofs.arithmetic.sum_of.Goals as goal
 pub returns-in-0 : goal.returns-in-0
 unfolding sum_of floating_sum_to
 returns-in-0 c =
-    let match = c.in-0 in
     let floating-sum = c.floating_sum in
     let x-of = c.x_of-xj in
     let x-of2 = c.x_of-xk in
@@ -19,7 +18,6 @@ returns-in-0 c =
 pub returns-in-1 : goal.returns-in-1
 unfolding sum_of floating_sum_to
 returns-in-1 c =
-    let match = c.in-1 in
     let floating-sum2 = c.floating_sum-in-1 in
     let x-of = c.x_of-xj in
     let x-of2 = c.x_of-xk in
@@ -28,7 +26,6 @@ returns-in-1 c =
 pub returns-in-2 : goal.returns-in-2
 unfolding sum_of floating_sum_to
 returns-in-2 c =
-    let match = c.in-2 in
     let floating-sum3 = c.floating_sum-in-2 in
     let x-of = c.x_of-xj in
     let x-of2 = c.x_of-xk in
@@ -37,7 +34,6 @@ returns-in-2 c =
 pub returns-in-3 : goal.returns-in-3
 unfolding sum_of floating_sum_to
 returns-in-3 c =
-    let match = c.in-3 in
     let floating-sum4 = c.floating_sum-in-3 in
     let x-of = c.x_of-xj in
     let x-of2 = c.x_of-xk in
@@ -54,7 +50,6 @@ returns-in-5 c = rw c.in-5.is
 pub returns-in-6 : goal.returns-in-6
 unfolding sum_of
 returns-in-6 c =
-    let match = c.in-6 in
     let x-of = c.x_of-xj in
     let x-of2 = c.x_of-xk in
     rw (c.in-6.is, c.sum60.ensures, x-of.ensures.is, x-of2.ensures.is)
@@ -62,7 +57,6 @@ returns-in-6 c =
 pub returns-in_default : goal.returns-in_default
 unfolding sum_of
 returns-in_default c =
-    let match = c.in_default in
     let x-of = c.x_of-xj in
     let x-of2 = c.x_of-xk in
-    rw ((let last : _ ≡ 7 = omega arith in last), c.difference60.ensures, x-of.ensures.is, x-of2.ensures.is)
+    rw ((let last : c.args.m ≡ 7 = omega arith in last), c.difference60.ensures, x-of.ensures.is, x-of2.ensures.is)

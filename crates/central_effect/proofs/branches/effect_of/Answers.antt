@@ -21,7 +21,6 @@ returns-in-2 c = rw (c.in-2.is, c.sum18.ensures, c.b_of.ensures.is)
 pub returns-in-3 : goal.returns-in-3
 unfolding branch_of
 returns-in-3 c =
-    let match = c.in-3 in
     let word-condition = c.word_condition in
     let x-of = c.x_of in
     rw (c.in-3.is, c.jump_if.ensures, word-condition.ensures, x-of.ensures.is)
@@ -29,7 +28,6 @@ returns-in-3 c =
 pub returns-in_default : goal.returns-in_default
 unfolding branch_of
 returns-in_default c =
-    let match = c.in_default in
     let b-of2 = c.b_of-in_default in
     let b-of3 = c.b_of-in_default-2 in
     let comparison = c.comparison in

@@ -21,7 +21,6 @@ returns-in-2 c = rw (c.in-2.is, c.sum18-in-2.ensures, c.low18.ensures, c.x_of.en
 pub returns-in-3 : goal.returns-in-3
 unfolding operand_of
 returns-in-3 c =
-    let match = c.in-3 in
     let x-of2 = c.x_of-in-3 in
     let low182 = c.low18-in-3 in
     let b-of2 = c.b_of-in-3 in
@@ -34,7 +33,6 @@ returns-in-4 c = rw (c.in-4.is, c.sum18-in-4.ensures, c.b_of-in-4.ensures.is, c.
 pub returns-in-5 : goal.returns-in-5
 unfolding operand_of
 returns-in-5 c =
-    let match = c.in-5 in
     let a-of3 = c.a_of-in-5 in
     let b-of4 = c.b_of-in-5 in
     rw (c.in-5.is, c.difference18.ensures, b-of4.ensures.is, a-of3.ensures.is)
@@ -46,7 +44,6 @@ returns-in-6 c = rw (c.in-6.is, c.sum18-in-6.ensures, c.b_of-in-6-2.ensures.is, 
 pub returns-in_default : goal.returns-in_default
 unfolding operand_of
 returns-in_default c =
-    let match = c.in_default in
     let b-of7 = c.b_of-in_default in
     let b-of8 = c.b_of-in_default-2 in
-    rw ((let last : _ ≡ 7 = omega arith in last), c.difference18-in_default.ensures, b-of8.ensures.is, b-of7.ensures.is)
+    rw ((let last : c.args.m ≡ 7 = omega arith in last), c.difference18-in_default.ensures, b-of8.ensures.is, b-of7.ensures.is)

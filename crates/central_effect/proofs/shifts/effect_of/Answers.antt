@@ -17,7 +17,6 @@ returns-in-1 c = rw (c.in-1.is, c.shift_right60.ensures, c.x_of-in-1.ensures.is)
 pub returns-in-2 : goal.returns-in-2
 unfolding shift_of
 returns-in-2 c =
-    let match = c.in-2 in
     let b-of = c.b_of in
     let x-of3 = c.x_of-in-2 in
     rw (c.in-2.is, c.nominal.ensures, b-of.ensures.is, x-of3.ensures.is)
@@ -25,7 +24,6 @@ returns-in-2 c =
 pub returns-in-3 : goal.returns-in-3
 unfolding shift_of
 returns-in-3 c =
-    let match = c.in-3 in
     let b-of2 = c.b_of-in-3 in
     let x-of4 = c.x_of-in-3 in
     rw (c.in-3.is, c.nominal-in-3.ensures, b-of2.ensures.is, x-of4.ensures.is)
@@ -45,7 +43,6 @@ returns-in-6 c = rw (c.in-6.is, c.unpack_to.ensures, c.x_of-in-6.ensures.is)
 pub returns-in_default : goal.returns-in_default
 unfolding shift_of
 returns-in_default c =
-    let match = c.in_default in
     let b-of3 = c.b_of-in_default in
     let x-of7 = c.x_of-in_default in
-    rw ((let last : _ ≡ 7 = omega arith in last), c.pack.ensures, b-of3.ensures.is, x-of7.ensures.is)
+    rw ((let last : c.args.m ≡ 7 = omega arith in last), c.pack.ensures, b-of3.ensures.is, x-of7.ensures.is)

@@ -27,7 +27,6 @@ overflow_sub-v c =
     let loop = c.loop-remaining in
     let loop-test = c.loop-remaining-test in
     let step = c.step in
-    let next = c.next-1 in
     omega (arith, (shifted-on _ _ _ (omega (arith, pre.fl_bound)) pre.p_lt_fl _ _ _ _ loop.invariant loop-test.true _ step.ensures _ c.in-Next.is).0)
 
 pub overflow_shl-v-in-Next : goal.overflow_shl-v-in-Next
@@ -39,7 +38,6 @@ loop-remaining-smaller c =
     let loop = c.loop-remaining in
     let loop-test = c.loop-remaining-test in
     let step = c.step in
-    let next = c.next-1 in
     (shifted-on _ _ _ (omega (arith, pre.fl_bound)) pre.p_lt_fl _ _ _ _ loop.invariant loop-test.true _ step.ensures _ c.in-Next.is).0
 
 pub loop-remaining-preserved : goal.loop-remaining-preserved
@@ -48,7 +46,6 @@ loop-remaining-preserved c =
     let loop = c.loop-remaining in
     let loop-test = c.loop-remaining-test in
     let step = c.step in
-    let next = c.next-1 in
     (shifted-on _ _ _ (omega (arith, pre.fl_bound)) pre.p_lt_fl _ _ _ _ loop.invariant loop-test.true _ step.ensures _ c.in-Next.is).1
 
 pub shape_of-f-in-Branch : goal.shape_of-f-in-Branch
@@ -64,7 +61,6 @@ returns-in-Branch c =
     let loop = c.loop-remaining in
     let loop-test = c.loop-remaining-test in
     let step = c.step in
-    let target = c.target-1 in
     shifted-branch _ _ _ (omega (arith, pre.fl_bound)) pre.p_lt_fl _ _ _ _ loop.invariant loop-test.true _ step.ensures _ c.in-Branch.is
 
 pub shape_of-f-in-Stop : goal.shape_of-f-in-Stop
@@ -80,7 +76,6 @@ returns-in-Stop c =
     let loop = c.loop-remaining in
     let loop-test = c.loop-remaining-test in
     let step = c.step in
-    let s = c.s-1 in
     let number = c.number in
     rw number.ensures (shifted-stop _ _ _ (omega (arith, pre.fl_bound)) pre.p_lt_fl _ _ _ _ loop.invariant loop-test.true _ step.ensures _ c.in-Stop.is)
 

@@ -8,7 +8,6 @@ store_central-requires c = c.requires c.in-Accepted.is
 
 pub returns-in-Accepted : goal.returns-in-Accepted
 returns-in-Accepted c =
-    let enum_told = c.enum_told-1 in
     let store-central = c.store_central in
     kept-accepted _ _ _ _ c.in-Accepted.is store-central.ensures
 

@@ -8,7 +8,6 @@ store_machine-requires c = c.requires c.in-Accepted.is
 
 pub returns-in-Accepted : goal.returns-in-Accepted
 returns-in-Accepted c =
-    let enum_told = c.enum_told-1 in
     let store-machine = c.store_machine in
     kept-accepted _ _ _ _ c.in-Accepted.is store-machine.ensures
 

@@ -6,18 +6,15 @@ use Rattle.host_answer.proofs.results.keep_taken.Goals as goal
 pub store_channel-requires : goal.store_channel-requires
 store_channel-requires c =
     let pre = c.requires in
-    let taken = c.taken-1 in
     pre.word c.in-Word.is
 
 pub returns-in-Word : goal.returns-in-Word
 returns-in-Word c =
     let args = c.args in
-    let taken = c.taken-1 in
     let store-channel = c.store_channel in
     taken_is args.channel.now _ args.result.now args.a _ _ _ c.in-Word.is store-channel.ensures c.flag.ensures
 
 pub returns-in-Refused : goal.returns-in-Refused
 returns-in-Refused c =
     let args = c.args in
-    let taken2 = c.taken-in-Refused-1 in
     taken_refused args.channel.now args.channel.now args.result.now args.a _ _ c.in-Refused.is c.number.ensures

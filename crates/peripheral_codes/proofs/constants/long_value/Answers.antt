@@ -20,4 +20,4 @@ returns-in-2 c = rw (c.in-2.is, c.logical_product.ensures)
 
 pub returns-in_default : goal.returns-in_default
 unfolding long_value
-returns-in_default c = rw ((let last : _ ≡ 3 = omega arith in last), c.logical_difference.ensures)
+returns-in_default c = rw ((let last : c.args.k ≡ 3 = omega arith in last), c.logical_difference.ensures)

@@ -36,4 +36,4 @@ returns-in-6 c = rw (c.in-6.is, c.sum18.ensures)
 
 pub returns-in_default : goal.returns-in_default
 unfolding short_value
-returns-in_default c = rw ((let last : _ ≡ 7 = omega arith in last), c.difference18.ensures)
+returns-in_default c = rw ((let last : c.args.k ≡ 7 = omega arith in last), c.difference18.ensures)

@@ -36,4 +36,4 @@ returns-in-6 c = rw (c.in-6.is, c.jump_if-in-6.ensures, c.is_negative18.ensures)
 
 pub returns-in_default : goal.returns-in_default
 unfolding jump_of
-returns-in_default c = rw ((let last : _ ≡ 7 = omega arith in last), c.jump_if-in_default.ensures, c.is_negative18-in_default.ensures)
+returns-in_default c = rw ((let last : c.args.k ≡ 7 = omega arith in last), c.jump_if-in_default.ensures, c.is_negative18-in_default.ensures)

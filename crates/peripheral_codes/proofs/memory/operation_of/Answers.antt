@@ -38,4 +38,4 @@ pub returns-in_default : goal.returns-in_default
 unfolding operation_of
 returns-in_default c =
     let read = c.read-v in
-    rw ((let last : _ ≡ 7 = omega arith in last), c.replaced-in_default.ensures, c.difference18-in_default.ensures, read.ensures.is)
+    rw ((let last : c.args.k ≡ 7 = omega arith in last), c.replaced-in_default.ensures, c.difference18-in_default.ensures, read.ensures.is)

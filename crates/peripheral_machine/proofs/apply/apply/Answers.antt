@@ -20,7 +20,6 @@ bounds-m-at c =
 pub set_parts-requires : goal.set_parts-requires
 set_parts-requires c =
     let pre = c.requires in
-    let e3 = c.e-in-ReadCentral-1 in
     omega (arith, (subst (PeripheralSound _) c.in-ReadCentral.is pre.peripheral_sound).1, pre.m_len)
 
 pub offset_bounds-c-at : goal.offset_bounds-c-at
@@ -35,7 +34,6 @@ set_channel-requires c = (subst (PeripheralSound _) c.in-SetChannel.is c.require
 pub exchange_at-requires : goal.exchange_at-requires
 exchange_at-requires c =
     let pre = c.requires in
-    let e6 = c.e-in-Exchange-1 in
     record { at_in_bounds = (subst (PeripheralSound _) c.in-Exchange.is pre.peripheral_sound).1.inside; fits_package = pre.fits_package }
 
 pub returns-in-Advance : goal.returns-in-Advance
@@ -49,7 +47,6 @@ returns-in-Store c = rw (c.in-Store.is, c.advance-in-Store.ensures)
 pub returns-in-ReadCentral : goal.returns-in-ReadCentral
 unfolding peripheral_applied
 returns-in-ReadCentral c =
-    let e3 = c.e-in-ReadCentral-1 in
     let set-parts = c.set_parts in
     rw (c.in-ReadCentral.is, c.advance-in-ReadCentral.ensures, set-parts.ensures)
 
@@ -64,7 +61,6 @@ returns-in-SetChannel c = rw (c.in-SetChannel.is, c.advance-in-SetChannel.ensure
 pub returns-in-Exchange : goal.returns-in-Exchange
 unfolding peripheral_applied
 returns-in-Exchange c =
-    let e6 = c.e-in-Exchange-1 in
     let exchange-at = c.exchange_at in
     rw (c.in-Exchange.is, c.advance-in-Exchange.ensures, ← exchange-at.ensures)
 

@@ -12,7 +12,6 @@ pub returns-in-Accepted : goal.returns-in-Accepted
 unfolding program_answer
 returns-in-Accepted c =
     let program-verdict = c.program_verdict in
-    let enum_told = c.enum_told-1 in
     let stint = c.stint-o in
     rw (← program-verdict.ensures, c.in-Accepted.is, ← stint.ensures)
 

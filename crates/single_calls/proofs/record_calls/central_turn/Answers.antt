@@ -15,7 +15,6 @@ pub returns-in-Accepted : goal.returns-in-Accepted
 unfolding turn_answer
 returns-in-Accepted c =
     let host-verdict = c.host_verdict in
-    let enum_told = c.enum_told-1 in
     let turns-if-running = c.turns_if_running-o in
     rw (← host-verdict.ensures, c.in-Accepted.is)
     (ap (λ (o : Turned). central_answered Call.Accepted o.machine) (turns-if-running.ensures ∙ one-turn _ _))

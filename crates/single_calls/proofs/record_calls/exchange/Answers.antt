@@ -9,14 +9,12 @@ use Rattle.single_calls.proofs.record_calls.exchange.Goals as goal
 pub exchange_jump-after-requires : goal.exchange_jump-after-requires
 exchange_jump-after-requires c =
     let exchange-verdict = c.exchange_verdict in
-    let enum_told = c.enum_told-1 in
     let e = sym exchange-verdict.ensures ∙ c.in-Accepted.is in ((exchange-owner _ _ _ e).inside, (fits _ _ (exchange-host _ _ _ e).fits).fits-package)
 
 pub returns-in-Accepted : goal.returns-in-Accepted
 unfolding exchange_answer
 returns-in-Accepted c =
     let exchange-verdict = c.exchange_verdict in
-    let enum_told = c.enum_told-1 in
     let exchange-jump = c.exchange_jump-after in
     rw (← exchange-verdict.ensures, c.in-Accepted.is, ← exchange-jump.ensures)
 

@@ -12,7 +12,6 @@ pub returns-in-Accepted : goal.returns-in-Accepted
 unfolding turns_answer
 returns-in-Accepted c =
     let turns-verdict = c.turns_verdict in
-    let enum_told = c.enum_told-1 in
     let turns-if-running = c.turns_if_running-o in
     rw (← turns-verdict.ensures, c.in-Accepted.is, ← turns-if-running.ensures)
 

@@ -12,7 +12,6 @@ pub returns-in-Accepted : goal.returns-in-Accepted
 unfolding peripheral_turn_answer
 returns-in-Accepted c =
     let turn-verdict = c.turn_verdict in
-    let enum_told = c.enum_told-1 in
     let turn = c.turn-after in
     carried-out turn_given _ _ _ (sym turn-verdict.ensures ∙ c.in-Accepted.is) (left _ _ _) turn.ensures
 

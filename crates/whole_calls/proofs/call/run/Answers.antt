@@ -12,7 +12,6 @@ pub returns-in-Accepted : goal.returns-in-Accepted
 unfolding run_answer
 returns-in-Accepted c =
     let run-verdict = c.run_verdict in
-    let enum_told = c.enum_told-1 in
     let make-rounds = c.make_rounds-o in
     carried-out run_given _ _ _ (sym run-verdict.ensures ∙ c.in-Accepted.is) (left _ _ _) make-rounds.ensures
 
