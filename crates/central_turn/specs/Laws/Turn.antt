@@ -64,7 +64,7 @@ module _ (b : Bounds) (p w : ℕ) (room : b.fl ≤ 131072) (inside : p < b.fl) (
     -- where nothing of the word is run after the step
     pub going-out : (t : TurnEnd) → ((rest : State → ℕ → Turn) → go_on p rest a.state o ≡ turned a.state t)
         → turned a.state t ≡ word_run b p w s₀
-    going-out t ends = sym (ends _) ∙ (stepped g.most g.enough g.is).1.1
+    going-out t ends = sym (ends (parcels_run (stepped g.most g.enough g.is).0 b p w)) ∙ (stepped g.most g.enough g.is).1.1
 
   pub word-going-on : (h : place < 4) (a : After) (e : a ≡ step_of s b p w place) (next : ℕ) → a.step ≡ Then.Next next
       → ((place < next) × (next ≤ 4)) × WordGoing b p w s₀ a.state next

@@ -13,13 +13,15 @@ pub step-requires : goal.step-requires
 step-requires c =
     let pre = c.requires in
     let inv = c.loop-remaining.invariant in
-    let kept = inv.going.kept in (
-      kept.wide,
-      (
-        record { size = kept.size; room = pre.fl_bound },
-        (pre.t_value, (omega (arith, pre.fl_bound, pre.p_lt_fl), (omega (arith, inv.total), omega (arith, inv.total)))),
-      ),
-    )
+    let kept = inv.going.kept in
+    record {
+      wide = kept.wide;
+      lent = record { size = kept.size; room = pre.fl_bound };
+      t_value = pre.t_value;
+      p_bound = omega (arith, pre.fl_bound, pre.p_lt_fl);
+      remaining_bound = omega (arith, inv.total);
+      remaining_value = omega (arith, inv.total);
+    }
 
 pub overflow_sub-v : goal.overflow_sub-v
 overflow_sub-v c =
@@ -53,7 +55,7 @@ shape_of-f-in-Branch c =
     let pre = c.requires in
     let loop = c.loop-remaining in
     let step = c.step in
-    step.auto.1.0 ∙ loop.invariant.going.kept.size ∙ sym pre.state_kept.size
+    step.auto.f ∙ loop.invariant.going.kept.size ∙ sym pre.state_kept.size
 
 pub returns-in-Branch : goal.returns-in-Branch
 returns-in-Branch c =
@@ -68,7 +70,7 @@ shape_of-f-in-Stop c =
     let pre = c.requires in
     let loop = c.loop-remaining in
     let step = c.step in
-    step.auto.1.0 ∙ loop.invariant.going.kept.size ∙ sym pre.state_kept.size
+    step.auto.f ∙ loop.invariant.going.kept.size ∙ sym pre.state_kept.size
 
 pub returns-in-Stop : goal.returns-in-Stop
 returns-in-Stop c =
@@ -80,7 +82,7 @@ returns-in-Stop c =
     rw number.ensures (shifted-stop _ _ _ (omega (arith, pre.fl_bound)) pre.p_lt_fl _ _ _ _ loop.invariant loop-test.true _ step.ensures _ c.in-Stop.is)
 
 pub overflow_add-result : goal.overflow_add-result
-overflow_add-result c = omega (arith, c.requires.1)
+overflow_add-result c = omega (arith, c.requires.fl_bound, c.requires.p_lt_fl)
 
 pub shape_of-f : goal.shape_of-f
 shape_of-f c = c.loop-remaining.invariant.going.kept.size ∙ sym c.requires.state_kept.size

@@ -25,7 +25,7 @@ shape_of-f-then-e-ne0 c =
     let pre = c.requires in
     let loop = c.loop-left in
     let turn = c.turn-e in
-    turn.auto.1.0 ∙ loop.invariant.kept.size ∙ sym pre.state_kept.size
+    turn.auto.f ∙ loop.invariant.kept.size ∙ sym pre.state_kept.size
 
 pub returns-then-e-ne0 : goal.returns-then-e-ne0
 returns-then-e-ne0 c =

@@ -58,8 +58,8 @@ first_field_past_end-requires c =
 
 pub overlap_fault-requires : goal.overlap_fault-requires
 overlap_fault-requires c =
-    overlap-told _
-    (refused_as _ c.schedule_verdict.ensures c.in-Refused.is c.in-SharedWord.is)
+    let told = overlap-told _ (refused_as _ c.schedule_verdict.ensures c.in-Refused.is c.in-SharedWord.is) in
+    record { inside = told.0; jobs_value = told.1 }
 
 pub returns-in-Accepted : goal.returns-in-Accepted
 returns-in-Accepted c = sym (accepted-names-nobody _ (sym c.schedule_verdict.ensures ∙ c.in-Accepted.is))

@@ -1,4 +1,5 @@
 -- `shared_fault::owners::first_field_past_end` meets its contract.
+use Rattle.std.proofs.Common.{sym, ◌∙◌}
 use Prim.Native.Nat.{◌-◌}
 use native.Mathlib.Omega.{arith}
 use borrow.Author.Rules.{rules}

@@ -1,4 +1,5 @@
 -- `shared_verdict::owners::apart_from_all` meets its contract.
+use Rattle.std.proofs.Common.{sym, ◌∙◌}
 use Prim.Native.Nat.{◌-◌}
 use native.Mathlib.Omega.{arith}
 use lib.ListN.{length}

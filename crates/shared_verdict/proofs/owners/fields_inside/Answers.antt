@@ -1,4 +1,5 @@
 -- `shared_verdict::owners::fields_inside` meets its contract.
+use Rattle.std.proofs.Common.{sym, ◌∙◌}
 use Prim.Native.Nat.{◌-◌}
 use native.Mathlib.Omega.{arith}
 use borrow.Author.Rules.{rules}

@@ -20,7 +20,12 @@ turns-o-requires c =
     let args = c.args in
     let pre = c.requires in
     let table = c.table-t in
-    rw (place-back args.c.ra args.c.fl) (field-kept _ _ pre (search rules), (field_room _ _ pre, (table.ensures, p-short _ _ pre)))
+    record {
+      state_kept = rw (place-back args.c.ra args.c.fl) (field-kept _ _ pre (search rules));
+      fl_bound = field_room _ _ pre;
+      t_value = table.ensures;
+      p_bound = p-short _ _ pre;
+    }
 
 pub returns : goal.returns
 unfolding ran_on

@@ -9,7 +9,8 @@ run-made-requires c =
     let args = c.args in
     let pre = c.requires in
     let Numbers-of = c.numbers_of-s in
-    run-ready _ _ args.r _ Numbers-of.ensures _ (pre) (search rules)
+    let ready = run-ready _ _ args.r _ Numbers-of.ensures _ (pre) (search rules) in
+    record { machine_kept = ready.0; k_bound = ready.1 }
 
 pub returns : goal.returns
 returns c =

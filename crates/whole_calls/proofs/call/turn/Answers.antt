@@ -9,7 +9,8 @@ processors_turn-requires c =
     let args = c.args in
     let pre = c.requires in
     let Numbers-of = c.numbers_of-s in
-    turn-ready _ _ args.r _ Numbers-of.ensures _ (pre) (search rules)
+    let ready = turn-ready _ _ args.r _ Numbers-of.ensures _ (pre) (search rules) in
+    record { machine_kept = ready.0; count_in_bounds = ready.1 }
 
 pub returns : goal.returns
 returns c =

@@ -1,4 +1,5 @@
 -- `whole_device::calls::drop_value` meets its contract: each return is the definition at the tests that led there.
+use Rattle.std.proofs.Common.{sym, ◌∙◌}
 use borrow.Author.Rules.{rules}
 use Rattle.base_logic.specs.Laws.Tests.{holds, fails}
 use Rattle.whole_device.specs.Device.{drop_of}

@@ -8,7 +8,10 @@ pub turn-requires : goal.turn-requires
 turn-requires c =
     let args = c.args in
     let pre = c.requires in
-    rw (lent-words args.n) (lent-kept _ _ (machine _ _ _ _) pre.n_in_bounds.0 pre.machine_kept, pre.n_in_bounds.1)
+    record {
+      machine_kept = rw (lent-words args.n) (lent-kept _ _ (machine _ _ _ _) pre.n_in_bounds.0 pre.machine_kept);
+      n_bound = pre.n_in_bounds.1;
+    }
 
 pub returns : goal.returns
 returns c =

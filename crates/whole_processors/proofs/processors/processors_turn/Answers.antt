@@ -18,13 +18,14 @@ pub processor_turn-requires : goal.processor_turn-requires
 processor_turn-requires c =
     let pre = c.requires in
     let loop = c.loop-left in
-    let loop-test = c.loop-left-test in (
-      own-size _ (machine _ _ _ _) loop.invariant.kept,
-      (
+    let loop-test = c.loop-left-test in
+    record {
+      machine_kept = own-size _ (machine _ _ _ _) loop.invariant.kept;
+      n_in_bounds = (
         omega (arith, loop-test.true, loop.invariant.most, loop.invariant.kept.size, pre.count_in_bounds.0),
         omega (arith, loop-test.true, loop.invariant.most, pre.count_in_bounds.1),
-      ),
-    )
+      );
+    }
 
 pub overflow_sub-left : goal.overflow_sub-left
 overflow_sub-left c = omega (arith, c.loop-left-test.true)

@@ -27,7 +27,12 @@ pub turns-o-requires : goal.turns-o-requires
 turns-o-requires c =
     let args = c.args in
     let pre = c.requires in
-    rw (place-back (get_or args.s.now 79 0) (get_or args.s.now 80 0)) (field-kept _ _ pre.host_accepted pre.x_len, (field_room _ _ pre.host_accepted, (pre.t_value, p-short _ _ pre.host_accepted)))
+    record {
+      state_kept = rw (place-back (get_or args.s.now 79 0) (get_or args.s.now 80 0)) (field-kept _ _ pre.host_accepted pre.x_len);
+      fl_bound = field_room _ _ pre.host_accepted;
+      t_value = pre.t_value;
+      p_bound = p-short _ _ pre.host_accepted;
+    }
 
 pub returns : goal.returns
 returns c =

@@ -7,7 +7,8 @@ use Rattle.whole_rounds.proofs.round.round.Goals as goal
 pub processors_turn-requires : goal.processors_turn-requires
 processors_turn-requires c =
     let pre = c.requires in
-    all-ready _ pre.k_bound (machine _ _ _ _) pre.machine_kept
+    let ready = all-ready _ pre.k_bound (machine _ _ _ _) pre.machine_kept in
+    record { machine_kept = ready.0; count_in_bounds = ready.1 }
 
 pub central_turn-requires : goal.central_turn-requires
 central_turn-requires c =

@@ -1,4 +1,5 @@
 -- `whole_verdict::verdict::channels_fit` meets its contract.
+use Rattle.std.proofs.Common.{sym, ◌∙◌}
 use Prim.Native.Nat.{◌-◌}
 use native.Mathlib.Omega.{arith}
 use Rattle.base_logic.specs.Laws.Tests.{holds, fails}

@@ -1,6 +1,5 @@
 -- `whole_verdict::verdict::machine_verdict` meets its contract.
 use Rattle.std.proofs.Common.{sym, ◌∙◌}
-use borrow.Author.Tests.{not-true, not-false}
 use borrow.Author.Rules.{rules}
 use Rattle.base_logic.specs.Laws.Tests.{holds, fails}
 use Rattle.whole_verdict.specs.Verdict.{machine_verdict}
@@ -24,7 +23,7 @@ returns-then-not-there c =
     rw (
       sym c.length_fits.ensures ∙ c.if-not-length_fits.false,
       sym c.peripheral_length_fits.ensures ∙ c.if-not-peripheral_length_fits.false,
-      not-true c.args.there c.if-not-there.true,
+      c.if-not-there.true,
     )
 
 pub returns-then-not-words_fit : goal.returns-then-not-words_fit
@@ -33,7 +32,7 @@ returns-then-not-words_fit c =
     rw (
       sym c.length_fits.ensures ∙ c.if-not-length_fits.false,
       sym c.peripheral_length_fits.ensures ∙ c.if-not-peripheral_length_fits.false,
-      not-false c.args.there c.if-not-there.false,
+      c.if-not-there.false,
       sym c.words_fit.ensures ∙ c.if-not-words_fit.true,
     )
 
@@ -43,7 +42,7 @@ returns-then-not-short_words_fit c =
     rw (
       sym c.length_fits.ensures ∙ c.if-not-length_fits.false,
       sym c.peripheral_length_fits.ensures ∙ c.if-not-peripheral_length_fits.false,
-      not-false c.args.there c.if-not-there.false,
+      c.if-not-there.false,
       sym c.words_fit.ensures ∙ c.if-not-words_fit.false,
       sym c.short_words_fit.ensures ∙ c.if-not-short_words_fit.true,
     )
@@ -54,7 +53,7 @@ returns-then-not-machine_fits c =
     rw (
       sym c.length_fits.ensures ∙ c.if-not-length_fits.false,
       sym c.peripheral_length_fits.ensures ∙ c.if-not-peripheral_length_fits.false,
-      not-false c.args.there c.if-not-there.false,
+      c.if-not-there.false,
       sym c.words_fit.ensures ∙ c.if-not-words_fit.false,
       sym c.short_words_fit.ensures ∙ c.if-not-short_words_fit.false,
       sym c.machine_fits.ensures ∙ c.if-not-machine_fits.true,
@@ -66,7 +65,7 @@ returns c =
     rw (
       sym c.length_fits.ensures ∙ c.if-not-length_fits.false,
       sym c.peripheral_length_fits.ensures ∙ c.if-not-peripheral_length_fits.false,
-      not-false c.args.there c.if-not-there.false,
+      c.if-not-there.false,
       sym c.words_fit.ensures ∙ c.if-not-words_fit.false,
       sym c.short_words_fit.ensures ∙ c.if-not-short_words_fit.false,
       sym c.machine_fits.ensures ∙ c.if-not-machine_fits.false,

@@ -1,4 +1,5 @@
 -- `whole_verdict::verdict::processors_fit` meets its contract.
+use Rattle.std.proofs.Common.{sym, ◌∙◌}
 use Prim.Native.Nat.{◌-◌}
 use native.Mathlib.Omega.{arith}
 use borrow.Author.Rules.{rules}
