@@ -1,6 +1,5 @@
 -- `whole_device::calls::drop_value` meets its contract: each return is the definition at the tests that led there.
-use borrow.Author.Rules.{rules}
-use Rattle.base_logic.specs.Laws.Tests.{holds, fails}
+use Rattle.std.proofs.Common.{sym, ◌∙◌}
 use Rattle.whole_device.specs.Device.{drop_of}
 use Rattle.whole_device.proofs.calls.drop_value.Goals as goal
 

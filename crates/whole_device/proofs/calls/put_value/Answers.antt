@@ -1,8 +1,6 @@
 -- `whole_device::calls::put_value` meets its contract: each return is the definition at the tests that led there.
 use Rattle.std.proofs.Common.{sym, ◌∙◌}
-use borrow.Author.Rules.{rules}
 use borrow.Author.Tests.{lt-ltb, le-ltb}
-use Rattle.base_logic.specs.Laws.Tests.{holds, fails}
 use Rattle.whole_device.specs.Device.{put_of}
 use Rattle.whole_device.proofs.calls.put_value.Goals as goal
 

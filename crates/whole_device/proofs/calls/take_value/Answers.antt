@@ -1,7 +1,5 @@
 -- `whole_device::calls::take_value` meets its contract: each return is the definition at the tests that led there.
 use Rattle.std.proofs.Common.{sym, ◌∙◌}
-use borrow.Author.Rules.{rules}
-use Rattle.base_logic.specs.Laws.Tests.{holds, fails}
 use Rattle.whole_device.specs.Device.{take_of}
 use Rattle.whole_device.proofs.calls.take_value.Goals as goal
 
