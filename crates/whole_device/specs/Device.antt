@@ -2,7 +2,6 @@
 use Rattle.std.specs.Prelude.{ℕ, false, not, ◌&&◌, cond, ◌≡◌, ltb}
 use Rattle.base_outcome.specs.Numbers.{refusal_number, verdict_number}
 use Rattle.base_outcome.specs.declared.refusal.Refusal.{Refusal}
-use Rattle.base_outcome.specs.declared.refusal.Refusal.TheVariants as Refusal
 use Rattle.base_outcome.specs.declared.refusal.Verdict.{Verdict}
 use Rattle.base_outcome.specs.declared.refusal.Verdict.TheVariants as Call
 use Rattle.peripheral_channel.specs.declared.record.Channel.{Channel}

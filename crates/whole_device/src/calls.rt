@@ -40,6 +40,7 @@ pub struct TakeAnswer {
 }
 
 // A put of a word on a channel by value.
+#[tactic(auto, unfolding(crate::specs::Device::put_of))]
 pub fn put_value(c: Channel, word: u64) -> DeviceAnswer
     ensures { device_answer_to result ≡ put_of c word }
 {
@@ -78,6 +79,7 @@ pub fn put_value(c: Channel, word: u64) -> DeviceAnswer
 }
 
 // A take from a channel by value.
+#[tactic(auto, unfolding(crate::specs::Device::take_of))]
 pub fn take_value(c: Channel) -> TakeAnswer
     ensures { take_answer_to result ≡ take_of c }
 {
@@ -109,6 +111,7 @@ pub fn take_value(c: Channel) -> TakeAnswer
 }
 
 // A drop of a channel by value.
+#[tactic(auto, unfolding(crate::specs::Device::drop_of))]
 pub fn drop_value(c: Channel) -> DeviceAnswer
     ensures { device_answer_to result ≡ drop_of c }
 {
