@@ -20,19 +20,21 @@ def options(words, doc):
     return source, times, earlier
 
 
-def first_of(folder, *names):
-    """The first of these files that is there, or the first: an earlier version may have it under another name."""
-    return next((folder / name for name in names if (folder / name).is_file()), folder / names[0])
+def first_of(*places):
+    """The first of these files that is there, or the first: an earlier version may have it at another place."""
+    return next((place for place in places if place.is_file()), places[0])
 
 
 def programs(name, verb, source, earlier, folder):
     """The commands by name: this version's program, the earlier one's, and the second emulator, built in the folder."""
-    commands = {"tozhenab": [HOME / "target/bin" / name]}
+    built = Path("crates") / name / "out" / name
+    commands = {"tozhenab": [HOME / built]}
     if earlier:
-        commands["earlier"] = [first_of(earlier / "target/bin", name, name.removeprefix("check_"))]
+        older = [earlier / "target/bin" / it for it in (name, name.removeprefix("check_"))]
+        commands["earlier"] = [first_of(earlier / built, *older)]
     for command in commands.values():
         if not command[0].is_file():
-            sys.exit(f"{command[0]} is missing: run rt check {name}, which proves and builds it")
+            sys.exit(f"{command[0]} is missing: rt run </dev/null in crates/{name} proves and builds it")
     build = ["cargo", "build", "--release", "--offline", "--quiet", "--target-dir", folder]
     if subprocess.run(build, cwd=source).returncode != 0:
         sys.exit("the second emulator was not built")

@@ -69,7 +69,7 @@ run_and_look() {
     esac
 }
 
-# Answers standard input. A program of the kit has no status of its own: it has failed where it says something.
+# Answers standard input. A program has failed where it says something, whatever its status.
 answer() { # run | run_and_look
     { said=$("$1" 2>&1 >&3 3>&-); } 3>&1
     ended=$?

@@ -11,43 +11,48 @@ version() {
     printf 'tozhenab %s%s\nRattle kit: %s\n' "$landed" "${commit:+, commit $commit}" "$kit"
 }
 
-# From `home`, since find returns to the folder that it was started in, which its user may not be allowed to enter.
+# From `home`, since find returns to the folder that it was started in, which its user may not be allowed to enter. A crate's own folder counts as
+# little as out/ in it, which rt makes there.
 has_newer_source() { # FILE
-    [ -n "$(cd "$home" && find crates crates.txt -newer "$1")" ]
+    [ -n "$(cd "$home" && find crates crates.txt -path 'crates/*/out' -prune -o -newer "$1" \( ! -type d -o -path 'crates/*/*' -o ! -path 'crates/*' \) -print)" ]
 }
 
-# Counts the crates that NAME needs, itself among them. The kit's libraries have no line in crates.txt.
-count_needed() { # NAME
+# Names the crates that NAME needs, itself the last, in the order in which rt proves them. The kit's libraries have no line in crates.txt.
+list_needed() { # NAME
     awk -v name="$1" '
         function visit(crate, uses, used, i) {
             if (seen[crate]++ || !(crate in listed)) return
-            count++
             uses = split(listed[crate], used, " ")
             for (i = 1; i <= uses; i++) visit(used[i])
+            print crate
         }
         { sub(/#.*/, "") }
-        split($0, part, ":") == 2 { listed[part[1]] = part[2] }
-        END { visit(name); print count + 0 }' "$home/crates.txt"
+        split($0, part, ":") == 2 { split(part[1], word, " "); listed[word[1]] = part[2] }
+        END { visit(name) }' "$home/crates.txt"
 }
 
-# Of what rt prints, shows a line for each crate that it proves now; those that are proved already count too.
-show_progress() { # TOTAL
-    number=0
+# Of what rt prints, shows a line for each crate that it proves now. It prints nothing of a library that it has built before.
+show_progress() { # CRATE..
     while IFS= read -r line; do
         case $line in
-        "rt: "*" proved ("* | "rt: target/staticlib/"*) number=$((number + 1)) ;;
-        *) continue ;;
+        "crate "*": "*) crate=${line#crate } && crate=${crate%%: *} ;;
+        "logic=proved "*)
+            place=0
+            for needed; do
+                place=$((place + 1))
+                [ "$needed" != "$crate" ] || say "$place of $#: $crate"
+            done
+            ;;
         esac
-        crate=${line#rt: }
-        case $line in *"(unchanged since"*) ;; *) say "$number of $1: ${crate%% *}" ;; esac
     done
 }
 
-# Gives the status of rt, which the pipe would lose.
-run_rt() { # LOG TOTAL WORD..
-    log=$1 total=$2
+# Gives the status of the command, which the pipe would lose.
+run_logged() { # LOG CRATES COMMAND..
+    log=$1 crates=$2
     shift 2
-    ended=$({ { cd "$home" && rt "$@" </dev/null 2>&1 3>&-; echo "$?" >&3; } | tee "$log" | show_progress "$total"; } 3>&1)
+    # shellcheck disable=SC2086 # a crate a word
+    ended=$({ { "$@" </dev/null 2>&1 3>&-; echo "$?" >&3; } | tee "$log" | show_progress $crates; } 3>&1)
     return "$ended"
 }
 
@@ -62,19 +67,20 @@ can_prove() {
     [ -z "$obstacle" ]
 }
 
-prove() { # COMMAND NAME, the words of rt
-    log=$logs/$2.log total=$(count_needed "$2")
-    say "rt checks $total crates; those that are new or changed take minutes. Its log is $log"
-    run_rt "$log" "$total" "$@" && return
+prove() { # CRATE COMMAND..
+    name=$1 log=$logs/$1.log crates=$(list_needed "$1")
+    shift
+    say "rt checks $(printf '%s\n' "$crates" | sed -n '$=') crates; those that are new or changed take minutes. Its log is $log"
+    run_logged "$log" "$crates" "$@" && return
     ended=$?
-    tail -n 5 "$log" >&2
-    say "$2 is not proved: $log has the reasons"
+    awk '/error|no proof|not proved|^rt: /' "$log" | tail -n 5 >&2
+    say "$name is not proved: $log has the reasons"
     exit "$ended"
 }
 
 # The mark of a check that passed is as old as the check's beginning, so a source edited meanwhile is newer.
-bring_up_to_date() { # FILE, and the words of rt that make it
-    file=$1 mark=$logs/$3.checked
+bring_up_to_date() { # FILE CRATE, and the command that makes it
+    file=$1 mark=$logs/$2.checked
     shift
     if [ -e "$file" ] && [ -e "$mark" ] && ! has_newer_source "$mark"; then return; fi
     if can_prove; then
@@ -84,15 +90,28 @@ bring_up_to_date() { # FILE, and the words of rt that make it
     elif [ -e "$file" ] && has_newer_source "$file"; then
         say "a source is newer than $file, which is used as it is: $obstacle"
     fi
-    [ -e "$file" ] || { say "$file is not there: ${obstacle:-rt did not make it; remove $home/target and try again}"; exit 2; }
+    [ -e "$file" ] || { say "$file is not there: ${obstacle:-rt did not make it}"; exit 2; }
+}
+
+# rt has no command that builds a program and does not run it: here it answers an empty input.
+build_program() { # NAME
+    cd "$home/crates/$1" && rt run
 }
 
 ready() { # NAME
-    program=$home/target/bin/$1
-    bring_up_to_date "$program" check "$1"
+    program=$home/crates/$1/out/$1
+    bring_up_to_date "$program" "$1" build_program "$1"
 }
 
 ready_archive() {
     archive=$home/target/staticlib/libhost_calls.a
-    bring_up_to_date "$archive" staticlib host_calls
+    bring_up_to_date "$archive" host_calls_c "$home/host/archive"
+}
+
+# Marks what a gate that began with this file has proved and built.
+mark_built() { # FILE CRATE..
+    began=$1
+    shift
+    mkdir -p "$logs" || return
+    for name; do touch -r "$began" "$logs/$name.checked" || return; done
 }

@@ -1,5 +1,5 @@
 /*
- * Tozhenab: a proved CDC 6600, called from C. Link with -lhost_calls; `rt staticlib host_calls` writes
+ * Tozhenab: a proved CDC 6600, called from C. Link with -lhost_calls; `host/archive` writes
  * target/staticlib/libhost_calls.a. The rules of the machine are those of document 01.
  *
  * Every call gives the number of a refusal, or TOZHENAB_ACCEPTED. Where more than one condition is

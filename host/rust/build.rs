@@ -1,4 +1,4 @@
-//! Links libhost_calls.a, the archive that `rt staticlib host_calls` writes to target/staticlib.
+//! Links libhost_calls.a, the archive that `host/archive` writes to target/staticlib.
 //! TOZHENAB_ARCHIVE_DIR names another directory that holds it.
 
 use std::path::PathBuf;
@@ -17,7 +17,7 @@ fn main() {
     println!("cargo:rerun-if-env-changed=TOZHENAB_ARCHIVE_DIR");
     println!("cargo:rerun-if-changed={}", archive.display());
     if !archive.is_file() {
-        eprintln!("{} is not there: run rt staticlib host_calls", archive.display());
+        eprintln!("{} is not there: run host/archive", archive.display());
         process::exit(1);
     }
     println!("cargo:rustc-link-search=native={}", directory.display());

@@ -5,7 +5,7 @@ proving="$work/proving:$without_rt"
 loud="$work/loud:$without_rt" # its rt leaves a trace where it is asked to prove
 
 make_copy() {
-    mkdir "$copy" "$copy/crates" "$copy/docs" "$work/proving" "$work/loud" "$without_rt" &&
+    mkdir "$copy" "$copy/crates" "$copy/crates/tozhenab" "$copy/crates/tozhenab_why" "$copy/docs" "$work/proving" "$work/loud" "$without_rt" &&
         cp -R "$home/tozhenab" "$home/console" "$copy" && cp "$home/docs/CHANGELOG.md" "$copy/docs" && chmod -R a+rX "$copy" &&
         printf '%s\n' "low: # a comment" "high: low io" "tozhenab: high low libc" "tozhenab_why: low" "other:" >"$copy/crates.txt" || return
     for tool in awk cat chmod dirname find git mkdir mv readlink sed sh tail tee touch; do
@@ -19,14 +19,18 @@ exit 7
 EOF
     cat >"$work/proving/rt" <<'EOF'
 #!/bin/sh
-echo "rt: low proved (unchanged since it was last proved)"
+[ "$*" = run ] || exit 7
+name=${PWD##*/}
+proved() { # CRATE
+    printf '%s\n' "crate $1: modules loaded=0 checked=1" "logic=proved functions=1"
+}
 echo "fn high::call: proved"
-echo "rt: high proved (2 s)"
-[ ! -e crates/broken ] || { echo "rt: FAILED: $2" && exit 3; }
-mkdir -p target/bin
-printf '%s\n' '#!/bin/sh' "name=$2" '. /dev/stdin' >"target/bin/$2"
-chmod +x "target/bin/$2"
-echo "rt: $2 proved (1 s)"
+proved high
+[ ! -e ../broken ] || { echo "rt: FAILED: $name" && exit 3; }
+mkdir -p out
+printf '%s\n' '#!/bin/sh' "name=$name" '. /dev/stdin' >"out/$name"
+chmod +x "out/$name"
+proved "$name"
 EOF
     chmod +x "$work/loud/rt" "$work/proving/rt"
 }
@@ -129,7 +133,7 @@ read_only_and_newer() {
 }
 
 read_only_and_nothing_built() {
-    chmod -R u+w "$copy" && rm -r "$copy/target" && chmod -R a-w "$copy" && as_reader_of_copy 2 "target cannot be written"
+    chmod -R u+w "$copy" && rm -r "$copy/target" "$copy/crates/tozhenab/out" && chmod -R a-w "$copy" && as_reader_of_copy 2 "target cannot be written"
 }
 
 check "a copy with a stand-in for rt" make_copy
