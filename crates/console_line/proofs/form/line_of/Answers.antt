@@ -1,6 +1,5 @@
 -- `console_line::form::line_of` meets its contract.
 use mathlib.Core.Path.{refl}
-use borrow.Author.Rules.{rules}
 use Rattle.console_line.specs.Laws.Branches.{tested, line-words, line_at, line_word, line-job, line-stint, line-none}
 use Rattle.console_line.specs.Laws.Text.{begins-length}
 use Rattle.console_line.proofs.form.line_of.Goals as goal

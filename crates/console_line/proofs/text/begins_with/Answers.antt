@@ -1,8 +1,5 @@
 -- `console_line::text::begins_with` meets its contract.
-use Prim.Native.Nat.{◌-◌}
-use native.Mathlib.Omega.{arith}
-use lib.ListN.{length}
-use Rattle.console_line.specs.Laws.Text.{Matched, matched-start, matched-end, text-ends, byte-differs, matched-next}
+use Rattle.console_line.specs.Laws.Text.{matched-start, matched-end, text-ends, byte-differs, matched-next}
 use Rattle.console_line.proofs.text.begins_with.Goals as goal
 
 pub loop-i-init : goal.loop-i-init

@@ -1,8 +1,5 @@
 -- `console_line::text::first_comma` meets its contract.
-use Prim.Native.Nat.{◌-◌}
-use native.Mathlib.Omega.{arith}
-use lib.ListN.{length}
-use Rattle.console_line.specs.Laws.Text.{Looked, looked-start, no-comma, comma-here, looked-next}
+use Rattle.console_line.specs.Laws.Text.{looked-start, no-comma, comma-here, looked-next}
 use Rattle.console_line.proofs.text.first_comma.Goals as goal
 
 pub loop-i-init : goal.loop-i-init

@@ -1,7 +1,6 @@
 -- `console_line::value::number_of` meets its contract.
 use mathlib.Core.Path.{sym, ◌∙◌}
 use native.Mathlib.Omega.{arith}
-use borrow.Author.Rules.{rules}
 use Rattle.console_line.specs.Laws.Value.{number_is, number-empty, number-long}
 use Rattle.console_line.proofs.value.number_of.Goals as goal
 

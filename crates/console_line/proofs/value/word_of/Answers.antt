@@ -1,6 +1,5 @@
 -- `console_line::value::word_of` meets its contract.
 use mathlib.Core.Path.{sym, ◌∙◌}
-use borrow.Author.Rules.{rules}
 use Rattle.console_line.specs.Laws.Value.{word-is, word-not}
 use Rattle.console_line.proofs.value.word_of.Goals as goal
 
