@@ -1,5 +1,4 @@
 -- `console_grammar::rules::apply` meets its contract.
-use borrow.Author.Rules.{rules}
 use Rattle.console_grammar.specs.Laws.Refused.{line_refused, unreadable-line}
 use Rattle.console_grammar.proofs.rules.apply.Goals as goal
 

@@ -1,6 +1,5 @@
 -- `console_grammar::rules::begin` meets its contract.
 use native.Mathlib.Omega.{arith}
-use borrow.Author.Rules.{rules}
 use Rattle.console_grammar.specs.Laws.Blocks.{begun-inside, begun-past}
 use Rattle.console_grammar.proofs.rules.begin.Goals as goal
 

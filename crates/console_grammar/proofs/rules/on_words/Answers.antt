@@ -1,6 +1,5 @@
 -- `console_grammar::rules::on_words` meets its contract.
 use native.Mathlib.Omega.{arith}
-use borrow.Author.Rules.{rules}
 use Rattle.console_grammar.specs.Laws.Refused.{line_refused}
 use Rattle.console_grammar.specs.Laws.Words.{words-low, words-high, words-line-read}
 use Rattle.console_grammar.proofs.Parts.{no_words}
@@ -28,4 +27,4 @@ returns-in-Start c =
 pub returns-in_default : goal.returns-in_default
 returns-in_default c =
     let part = c.args.p.part in
-    λ l room. line_refused c.refuse-in_default.ensures (no_words part c.in_default.keys2 _)
+    λ l room. line_refused c.refuse-in_default.ensures (no_words part c.in_default.not-Start _)
