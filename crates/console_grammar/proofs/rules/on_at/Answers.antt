@@ -1,6 +1,6 @@
 -- `console_grammar::rules::on_at` meets its contract.
 use native.Mathlib.Omega.{arith}
-use Rattle.console_grammar.specs.Laws.Refused.{line_refused}
+use Rattle.console_grammar.proofs.Refused.{line_refused}
 use Rattle.console_grammar.specs.Laws.Blocks.{begin-first, at-or-below, below_end, begin-next}
 use Rattle.console_grammar.proofs.Parts.{no-at}
 use Rattle.console_grammar.proofs.rules.on_at.Goals as goal

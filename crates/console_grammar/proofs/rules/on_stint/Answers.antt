@@ -1,6 +1,7 @@
 -- `console_grammar::rules::on_stint` meets its contract.
 use native.Mathlib.Omega.{arith}
-use Rattle.console_grammar.specs.Laws.Refused.{line_refused, after-unreadable}
+use Rattle.console_grammar.specs.Laws.Refused.{after-unreadable}
+use Rattle.console_grammar.proofs.Refused.{line_refused}
 use Rattle.console_grammar.specs.Laws.Jobs.{stint-first, stint-kept, stint-over}
 use Rattle.console_grammar.proofs.Parts.{stint-added}
 use Rattle.console_grammar.proofs.rules.on_stint.Goals as goal

@@ -1,7 +1,7 @@
 -- `console_grammar::rules::on_word` meets its contract.
 use native.Mathlib.Omega.{arith}
-use Rattle.console_grammar.specs.Laws.Refused.{line_refused}
-use Rattle.console_grammar.specs.Laws.Blocks.{word-past, block-word-read}
+use Rattle.console_grammar.proofs.Refused.{line_refused, word-past}
+use Rattle.console_grammar.specs.Laws.Blocks.{block-word-read}
 use Rattle.console_grammar.proofs.Parts.{no_word}
 use Rattle.console_grammar.proofs.rules.on_word.Goals as goal
 
