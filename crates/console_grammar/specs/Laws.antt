@@ -1,7 +1,6 @@
 -- Consequences of the definitions.
 pub mod Lines
 pub mod Follow
-pub mod Programs
 pub mod Read
 pub mod Grammar
 pub mod Memory
@@ -10,5 +9,4 @@ pub mod Words
 pub mod Blocks
 pub mod Entries
 pub mod Store
-pub mod StoreHeld
 pub mod Jobs

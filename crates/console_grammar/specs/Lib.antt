@@ -1,5 +1,5 @@
 -- The definitions that the contracts of `console_grammar` cite. A reader has to believe Lines, and Grammar or Reading, for what an input asks for:
--- `Laws` shows that these two say the same. For what a line leaves in the lent memory and lists, Held and Store.
+-- proofs/Grammar.antt shows that these two say the same. For what a line leaves in the lent memory and lists, Held and Store.
 pub mod Lines
 pub mod Reading
 pub mod Grammar

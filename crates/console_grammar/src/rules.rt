@@ -20,6 +20,7 @@ fn clear(memory: &mut [u64], words: usize)
     }
 }
 
+#[tactic(auto, using(crate::proofs::Refused::words_few, crate::proofs::Refused::words_many))]
 fn on_words(p: Progress, n: u64, memory: &mut [u64]) -> Progress
     requires { length memory.old ≡ 0o10000 }
     ensures { LineRead (Words n) p memory.old result memory.new }

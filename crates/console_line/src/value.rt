@@ -4,6 +4,7 @@ ghost use Rattle.console_line.specs.Form.{word, number};
 
 use word_octal::text::{Value, value_of};
 
+#[tactic(auto, unfolding(crate::specs::Form::word))]
 pub(crate) fn word_of(text: &[u8]) -> Value
     ensures { result ≡ word text.now }
 {
@@ -13,6 +14,7 @@ pub(crate) fn word_of(text: &[u8]) -> Value
     Value::NotOctal
 }
 
+#[tactic(auto, unfolding(crate::specs::Form::number))]
 pub(crate) fn number_of(text: &[u8]) -> Value
     ensures { result ≡ number text.now }
 {

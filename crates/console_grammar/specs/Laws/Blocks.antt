@@ -7,7 +7,7 @@ use Rattle.std.proofs.Math.ListN.{length-set}
 use Rattle.std.proofs.Math.Seq.{take-set-lt, drop-set-lt}
 use Rattle.console_line.specs.declared.form.Line.TheVariants.{At, Word}
 use Rattle.console_grammar.specs.Reading.{Request, unreadable, in_block, begin_at, at_to, word_to, line_to}
-use Rattle.console_grammar.specs.Held.{in_use, reading_at, unreadable_progress, CountsFit, firsts, job_entries, stint_entries}
+use Rattle.console_grammar.specs.Held.{in_use, reading_at, CountsFit, firsts, job_entries, stint_entries}
 use Rattle.console_grammar.specs.Store.{store_line}
 use Rattle.console_grammar.specs.Applied.{Begun, LineRead, BeginRead}
 use Rattle.console_grammar.specs.Laws.Follow.{with_word}
@@ -29,9 +29,6 @@ begun-inside p a k h =
     record {
       is = λ m l room. rw (memory-length p m k room.memory, lt-ltb a p.words h) (in-use-stored (in_block a a) p m l k room);
     }
-
-pub begun-past : (p r : Progress) (a : ℕ) → CountsFit p → p.words ≤ a → r ≡ unreadable_progress → Begun a p r
-begun-past p r a k h e = record { is = λ m l room. rw (e, memory-length p m k room.memory, le-ltb a p.words h) }
 
 at_first : (part : Part) (a : ℕ) → part ≡ Last.Words → (q : Request) → begin_at a q ≡ line_to (reading_at part q) (At a)
 unfolding line_to at_to
@@ -61,10 +58,6 @@ begin-next {p} {r} {b} {e} {a} k above h f m l room =
 
 -- a word of a block
 module _ {p : Progress} {m : List ℕ} {b e w : ℕ} (k : CountsFit p) (f : p.part ≡ Last.Block b e) where
-  pub word-past : {r : Progress} → p.words ≤ e → r ≡ unreadable_progress → LineRead (Word w) p m r m
-  unfolding store_line line_to word_to
-  word-past h i l room = record { is = rw (i, f, memory-length p m k room.memory, le-ltb e p.words h) }
-
   pub block-word-read : e < p.words → LineRead (Word w) p m (block p b (e + 1)) (set m e w)
   unfolding store_line line_to word_to
   block-word-read h l room =

@@ -1,5 +1,5 @@
 -- The memory that a readable input asks for has 1 to 4,096 words, each of 60 bits.
-use Rattle.std.specs.Prelude.{List, [], ◌∷◌, ◌++◌, map, ◌≡◌, ℕ, zero, suc, ◌^◌, ◌≤◌, ◌<◌, length, get_or, set, replicate}
+use Rattle.std.specs.Prelude.{List, [], ◌∷◌, ◌++◌, map, ℕ, zero, suc, ◌^◌, ◌≤◌, ◌<◌, length, get_or, set, replicate}
 use Rattle.std.proofs.Common.{subst, arith, lit<}
 use Rattle.std.proofs.lemmas.List.Edits.{sets}
 use Rattle.base_lists.specs.Laws.Each.{Each, of-get_d}
@@ -8,8 +8,7 @@ use Rattle.console_line.specs.Laws.Widths.{LineFits, line-fits}
 use Rattle.console_line.specs.declared.form.Line.{Line}
 use Rattle.console_grammar.specs.Grammar.{Block, Program, Readable, word_lines, block_lines, job_lines, stint_lines, loaded, request_of}
 use Rattle.console_grammar.specs.Lines.{lines_of}
-use Rattle.console_grammar.specs.Reading.{Request, Part, readable, reading_of}
-use Rattle.console_grammar.specs.Laws.Grammar.{ProgramOf, read-readable, memory-words}
+use Rattle.console_grammar.specs.Laws.Grammar.{memory-words}
 
 -- ---- what each entry of a list has
 
@@ -73,16 +72,10 @@ pub record InputMemory (m : List ℕ) : Type 0 where
   pub at_most : length m ≤ 0o10000
   pub below : (i : ℕ) → get_or m i 0 < 2 ^ 60
 
-readable-memory : (bytes : List ℕ) (d : Program) → Readable bytes d → InputMemory (request_of d).memory
+pub readable-memory : (bytes : List ℕ) (d : Program) → Readable bytes d → InputMemory (request_of d).memory
 readable-memory bytes d r =
     record {
       at_least = omega (arith, memory-words d, r.at_least);
       at_most = omega (arith, memory-words d, r.at_most);
       below = λ i. of-get_d Below60 (request_of d).memory i 0 (program-below bytes d r) (lit< tt);
     }
-
--- and every readable input asks for one
-pub input-memory : (bytes : List ℕ) (part : Part) (q : Request) → reading_of bytes ≡ readable part q → InputMemory q.memory
-input-memory bytes part q e =
-    let w : ProgramOf bytes q = read-readable bytes part q e in
-    subst (λ (p : Request). InputMemory p.memory) w.asks (readable-memory bytes w.program w.readable)

@@ -1,5 +1,4 @@
 -- `console_answer::refused::write_refused` meets its contract.
-use borrow.Author.Rules.{rules}
 use Rattle.console_answer.specs.Text.{refused_text}
 use Rattle.console_answer.proofs.refused.write_refused.Goals as goal
 

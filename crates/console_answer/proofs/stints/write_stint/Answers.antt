@@ -1,6 +1,5 @@
 -- `console_answer::stints::write_stint` meets its contract.
 use native.Mathlib.Omega.{arith}
-use borrow.Author.Rules.{rules}
 use Rattle.base_lists.specs.Laws.Written.{wrote_then}
 use Rattle.console_answer.specs.Text.{stint_text}
 use Rattle.console_text.specs.Names.{stint_is, job_is, turns_is}

@@ -1,12 +1,10 @@
 -- `console_answer::stints::write_stints` meets its contract.
 use Prim.Native.Nat.{◌-◌}
-use native.Mathlib.Omega.{arith}
 use lib.ListN.{length}
-use Rattle.base_lists.specs.Laws.Written.{Writing, writing_start, writing-next, writing-end}
+use Rattle.base_lists.specs.Laws.Written.{Writing}
 use Rattle.console_answer.specs.Text.{stints_text}
-use Rattle.console_answer.specs.Laws.Lengths.{length-stint}
-use Rattle.console_answer.specs.Laws.Room.{BufferRoom, room_next}
-use Rattle.console_answer.specs.Laws.Stints.{stints_from, stints-next, stints-end}
+use Rattle.console_answer.specs.Laws.Room.{BufferRoom}
+use Rattle.console_answer.specs.Laws.Stints.{stints_from}
 use Rattle.console_answer.proofs.stints.write_stints.Given as goal
 
 abbrev pub invariant-loop-i : goal.invariant-loop-i

@@ -1,6 +1,5 @@
 -- `console_answer::words::write_nonzero` meets its contract.
 use native.Mathlib.Omega.{arith}
-use borrow.Author.Rules.{rules}
 use Rattle.word_octal.specs.Laws.Write.{length_digits, length-octal}
 use Rattle.console_answer.specs.Laws.Room.{room_after}
 use Rattle.console_answer.specs.Laws.Words.{wrote-nonzero}

@@ -1,5 +1,4 @@
 -- `console_answer::words::write_word` meets its contract.
-use borrow.Author.Rules.{rules}
 use Rattle.console_answer.specs.Laws.Words.{wrote-zero}
 use Rattle.console_answer.proofs.words.write_word.Goals as goal
 

@@ -1,12 +1,10 @@
 -- `console_answer::words::write_words` meets its contract.
 use Prim.Native.Nat.{◌-◌}
-use native.Mathlib.Omega.{arith}
 use lib.ListN.{length}
-use Rattle.base_lists.specs.Laws.Written.{Writing, writing_start, writing-next, writing-end}
+use Rattle.base_lists.specs.Laws.Written.{Writing}
 use Rattle.console_answer.specs.Text.{words_text}
-use Rattle.console_answer.specs.Laws.Lengths.{length-word}
-use Rattle.console_answer.specs.Laws.Room.{BufferRoom, room_next}
-use Rattle.console_answer.specs.Laws.Words.{words_from, words-next, words-end}
+use Rattle.console_answer.specs.Laws.Room.{BufferRoom}
+use Rattle.console_answer.specs.Laws.Words.{words_from}
 use Rattle.console_answer.proofs.words.write_words.Given as goal
 
 abbrev pub invariant-loop-address : goal.invariant-loop-address

@@ -1,6 +1,6 @@
 -- `console_grammar::rules::apply` meets its contract.
-use borrow.Author.Rules.{rules}
-use Rattle.console_grammar.specs.Laws.Refused.{line_refused, unreadable-line}
+use Rattle.console_grammar.specs.Laws.Refused.{unreadable-line}
+use Rattle.console_grammar.proofs.Refused.{line_refused}
 use Rattle.console_grammar.proofs.rules.apply.Goals as goal
 
 pub on_words-requires : goal.on_words-requires

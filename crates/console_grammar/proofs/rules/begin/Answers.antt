@@ -1,7 +1,7 @@
 -- `console_grammar::rules::begin` meets its contract.
 use native.Mathlib.Omega.{arith}
-use borrow.Author.Rules.{rules}
-use Rattle.console_grammar.specs.Laws.Blocks.{begun-inside, begun-past}
+use Rattle.console_grammar.specs.Laws.Blocks.{begun-inside}
+use Rattle.console_grammar.proofs.Refused.{begun-past}
 use Rattle.console_grammar.proofs.rules.begin.Goals as goal
 
 pub returns-then-a-p : goal.returns-then-a-p

@@ -1,24 +1,11 @@
 -- `console_grammar::rules::clear` meets its contract.
-use Prim.Native.Nat.{◌-◌, ◌≤◌}
 use native.Mathlib.Omega.{arith}
-use lib.ListN.{length, length-set}
-use Rattle.console_grammar.specs.Laws.Words.{Clearing, clearing-start, clearing-next, clearing-end}
+use lib.ListN.{length-set}
+use Rattle.console_grammar.specs.Laws.Words.{clearing-start, clearing-next, clearing-end}
 use Rattle.console_grammar.proofs.rules.clear.Goals as goal
 
 pub loop-i-init : goal.loop-i-init
 loop-i-init c = (clearing-start _ _, omega (arith, c.requires))
-
-pub offset_bounds-memory-i : goal.offset_bounds-memory-i
-offset_bounds-memory-i c = omega arith
-
-pub bounds-memory-i : goal.bounds-memory-i
-bounds-memory-i c = omega arith
-
-pub overflow_add-i : goal.overflow_add-i
-overflow_add-i c = omega arith
-
-pub loop-i-smaller : goal.loop-i-smaller
-loop-i-smaller c = omega arith
 
 pub loop-i-preserved : goal.loop-i-preserved
 loop-i-preserved c = (clearing-next c.loop-i.invariant.0 c.loop-i-test.true (omega arith), simp length-set (omega arith))

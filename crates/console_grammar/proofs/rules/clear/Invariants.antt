@@ -1,8 +1,7 @@
 -- `console_grammar::rules::clear` meets its contract.
 use Prim.Native.Nat.{◌-◌, ◌≤◌}
-use native.Mathlib.Omega.{arith}
-use lib.ListN.{length, length-set}
-use Rattle.console_grammar.specs.Laws.Words.{Clearing, clearing-start, clearing-next, clearing-end}
+use lib.ListN.{length}
+use Rattle.console_grammar.specs.Laws.Words.{Clearing}
 use Rattle.console_grammar.proofs.rules.clear.Given as goal
 
 abbrev pub invariant-loop-i : goal.invariant-loop-i

@@ -1,7 +1,6 @@
 -- `console_grammar::rules::on_at` meets its contract.
 use native.Mathlib.Omega.{arith}
-use borrow.Author.Rules.{rules}
-use Rattle.console_grammar.specs.Laws.Refused.{line_refused}
+use Rattle.console_grammar.proofs.Refused.{line_refused}
 use Rattle.console_grammar.specs.Laws.Blocks.{begin-first, at-or-below, below_end, begin-next}
 use Rattle.console_grammar.proofs.Parts.{no-at}
 use Rattle.console_grammar.proofs.rules.on_at.Goals as goal
@@ -26,4 +25,4 @@ returns-else-a-end c =
     begin-next block (omega (arith, c.if-a-start.false)) (omega (arith, c.if-a-end.false)) c.begin-in-Block.ensures
 
 pub returns-in_default : goal.returns-in_default
-returns-in_default c = λ m l room. line_refused c.refuse-in_default.ensures (no-at c.args.p.part c.in_default.keys3 _)
+returns-in_default c = λ m l room. line_refused c.refuse-in_default.ensures (no-at c.args.p.part c.in_default.not-Words c.in_default.not-Block _)

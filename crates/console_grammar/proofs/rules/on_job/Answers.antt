@@ -1,7 +1,7 @@
 -- `console_grammar::rules::on_job` meets its contract.
 use native.Mathlib.Omega.{arith}
-use borrow.Author.Rules.{rules}
-use Rattle.console_grammar.specs.Laws.Refused.{line_refused, after-unreadable}
+use Rattle.console_grammar.specs.Laws.Refused.{after-unreadable}
+use Rattle.console_grammar.proofs.Refused.{line_refused}
 use Rattle.console_grammar.specs.Laws.Jobs.{job-first, job-late, job-kept, job-over}
 use Rattle.console_grammar.proofs.Parts.{job-added}
 use Rattle.console_grammar.proofs.rules.on_job.Goals as goal
@@ -11,7 +11,7 @@ bounds-jobs-n c = omega (arith, c.requires.0.jobs, c.requires.1)
 
 pub returns-then-n-lt-JOB_ENTRIES : goal.returns-then-n-lt-JOB_ENTRIES
 returns-then-n-lt-JOB_ENTRIES c =
-    let added = job-added c.args.p.part c.in_default.keys4 _ in
+    let added = job-added c.args.p.part c.in_default.not-Start c.in_default.not-Stints c.in_default.not-Unreadable _ in
     rw c.with_jobs.ensures (job-kept c.requires.1 c.requires.0 added (omega (arith, c.if-n-lt-JOB_ENTRIES.true)))
 
 pub returns-in-Start : goal.returns-in-Start
@@ -25,5 +25,5 @@ returns-in-Unreadable c = λ m ss ts room. line_refused c.refuse-in-Unreadable.e
 
 pub returns-else-n-lt-JOB_ENTRIES : goal.returns-else-n-lt-JOB_ENTRIES
 returns-else-n-lt-JOB_ENTRIES c =
-    let added = job-added c.args.p.part c.in_default.keys4 _ in
+    let added = job-added c.args.p.part c.in_default.not-Start c.in_default.not-Stints c.in_default.not-Unreadable _ in
     rw c.with_jobs-in_default.ensures (job-over c.requires.1 c.requires.0 added (omega (arith, c.if-n-lt-JOB_ENTRIES.false)))

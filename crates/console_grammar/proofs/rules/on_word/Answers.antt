@@ -1,8 +1,7 @@
 -- `console_grammar::rules::on_word` meets its contract.
 use native.Mathlib.Omega.{arith}
-use borrow.Author.Rules.{rules}
-use Rattle.console_grammar.specs.Laws.Refused.{line_refused}
-use Rattle.console_grammar.specs.Laws.Blocks.{word-past, block-word-read}
+use Rattle.console_grammar.proofs.Refused.{line_refused, word-past}
+use Rattle.console_grammar.specs.Laws.Blocks.{block-word-read}
 use Rattle.console_grammar.proofs.Parts.{no_word}
 use Rattle.console_grammar.proofs.rules.on_word.Goals as goal
 
@@ -22,4 +21,4 @@ returns-else-p-end c =
     block-word-read pre.0 c.in-Block.is (omega (arith, c.if-p-end.false))
 
 pub returns-in_default : goal.returns-in_default
-returns-in_default c = λ l room. line_refused c.refuse-in_default.ensures (no_word c.args.p.part c.in_default.keys2 _)
+returns-in_default c = λ l room. line_refused c.refuse-in_default.ensures (no_word c.args.p.part c.in_default.not-Block _)

@@ -1,5 +1,4 @@
 -- `console_line::one_value::job_line` meets its contract.
-use borrow.Author.Rules.{rules}
 use Rattle.console_line.specs.Laws.Value.{one_of, one-not}
 use Rattle.console_line.specs.declared.form.Line.TheVariants.{Job}
 use Rattle.console_line.proofs.one_value.job_line.Goals as goal

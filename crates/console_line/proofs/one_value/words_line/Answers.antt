@@ -1,5 +1,4 @@
 -- `console_line::one_value::words_line` meets its contract.
-use borrow.Author.Rules.{rules}
 use Rattle.console_line.specs.Laws.Value.{one_of, one-not}
 use Rattle.console_line.specs.declared.form.Line.TheVariants.{Words}
 use Rattle.console_line.proofs.one_value.words_line.Goals as goal

@@ -1,8 +1,5 @@
 -- `console_line::text::begins_with` meets its contract.
-use Prim.Native.Nat.{◌-◌}
-use native.Mathlib.Omega.{arith}
-use lib.ListN.{length}
-use Rattle.console_line.specs.Laws.Text.{Matched, matched-start, matched-end, text-ends, byte-differs, matched-next}
+use Rattle.console_line.specs.Laws.Text.{matched-start, matched-end, text-ends, byte-differs, matched-next}
 use Rattle.console_line.proofs.text.begins_with.Goals as goal
 
 pub loop-i-init : goal.loop-i-init
@@ -11,21 +8,9 @@ loop-i-init c = matched-start _ _
 pub returns-then-text-i : goal.returns-then-text-i
 returns-then-text-i c = text-ends c.loop-i.invariant c.loop-i-test.true c.if-text-i.true
 
-pub bounds-text-i : goal.bounds-text-i
-bounds-text-i c = omega arith
-
-pub bounds-name-i : goal.bounds-name-i
-bounds-name-i c = omega arith
-
 pub returns-then-text-i-2 : goal.returns-then-text-i-2
 returns-then-text-i-2 c =
     byte-differs c.loop-i.invariant c.loop-i-test.true c.if-text-i.false c.if-text-i-2.true
-
-pub overflow_add-i : goal.overflow_add-i
-overflow_add-i c = omega arith
-
-pub loop-i-smaller : goal.loop-i-smaller
-loop-i-smaller c = omega arith
 
 pub loop-i-preserved : goal.loop-i-preserved
 loop-i-preserved c =

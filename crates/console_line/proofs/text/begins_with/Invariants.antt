@@ -1,8 +1,7 @@
 -- `console_line::text::begins_with` meets its contract.
 use Prim.Native.Nat.{◌-◌}
-use native.Mathlib.Omega.{arith}
 use lib.ListN.{length}
-use Rattle.console_line.specs.Laws.Text.{Matched, matched-start, matched-end, text-ends, byte-differs, matched-next}
+use Rattle.console_line.specs.Laws.Text.{Matched}
 use Rattle.console_line.proofs.text.begins_with.Given as goal
 
 abbrev pub invariant-loop-i : goal.invariant-loop-i

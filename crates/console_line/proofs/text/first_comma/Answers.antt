@@ -1,24 +1,12 @@
 -- `console_line::text::first_comma` meets its contract.
-use Prim.Native.Nat.{◌-◌}
-use native.Mathlib.Omega.{arith}
-use lib.ListN.{length}
-use Rattle.console_line.specs.Laws.Text.{Looked, looked-start, no-comma, comma-here, looked-next}
+use Rattle.console_line.specs.Laws.Text.{looked-start, no-comma, comma-here, looked-next}
 use Rattle.console_line.proofs.text.first_comma.Goals as goal
 
 pub loop-i-init : goal.loop-i-init
 loop-i-init c = looked-start _
 
-pub bounds-text-i : goal.bounds-text-i
-bounds-text-i c = omega arith
-
 pub returns-then-text-i-eq44 : goal.returns-then-text-i-eq44
 returns-then-text-i-eq44 c = comma-here c.loop-i.invariant c.loop-i-test.true c.if-text-i-eq44.true
-
-pub overflow_add-i : goal.overflow_add-i
-overflow_add-i c = omega arith
-
-pub loop-i-smaller : goal.loop-i-smaller
-loop-i-smaller c = omega arith
 
 pub loop-i-preserved : goal.loop-i-preserved
 loop-i-preserved c = looked-next c.loop-i.invariant c.loop-i-test.true c.if-text-i-eq44.false

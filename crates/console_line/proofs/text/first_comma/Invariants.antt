@@ -1,8 +1,7 @@
 -- `console_line::text::first_comma` meets its contract.
 use Prim.Native.Nat.{◌-◌}
-use native.Mathlib.Omega.{arith}
 use lib.ListN.{length}
-use Rattle.console_line.specs.Laws.Text.{Looked, looked-start, no-comma, comma-here, looked-next}
+use Rattle.console_line.specs.Laws.Text.{Looked}
 use Rattle.console_line.proofs.text.first_comma.Given as goal
 
 abbrev pub invariant-loop-i : goal.invariant-loop-i

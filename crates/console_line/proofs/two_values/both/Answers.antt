@@ -1,5 +1,4 @@
 -- `console_line::two_values::both` meets its contract.
-use borrow.Author.Rules.{rules}
 use Rattle.console_line.proofs.two_values.both.Goals as goal
 
 pub returns-in-Of-turns : goal.returns-in-Of-turns

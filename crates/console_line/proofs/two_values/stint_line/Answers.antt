@@ -1,7 +1,6 @@
 -- `console_line::two_values::stint_line` meets its contract.
 use mathlib.Core.Path.{sym}
 use native.Mathlib.Omega.{arith}
-use borrow.Author.Rules.{rules}
 use lib.Seq.{length-take-le}
 use Rattle.console_line.specs.Laws.Branches.{stint-none, stint-some}
 use Rattle.console_line.specs.Laws.Text.{comma-le}
