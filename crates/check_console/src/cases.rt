@@ -201,6 +201,7 @@ fn keeps_line_feed(c: Case) -> bool {
 
 // The end of an input: its answer, and the start of the next one.
 fn end(
+    output: &impl Print,
     c: Case,
     memory: &mut [u64],
     jobs: &mut [u64],
@@ -216,7 +217,7 @@ fn end(
         &mut *stint_jobs,
         &mut *stint_turns,
     );
-    answer::write(r, &mut *memory, &*jobs, &*stint_jobs, &*stint_turns);
+    answer::write(output, r, &mut *memory, &*jobs, &*stint_jobs, &*stint_turns);
     start()
 }
 
@@ -258,6 +259,7 @@ fn go_on(
 }
 
 fn take_byte(
+    output: &impl Print,
     c: Case,
     byte: u8,
     memory: &mut [u64],
@@ -271,6 +273,7 @@ fn take_byte(
     }
     if ends(c.matched, byte) {
         return end(
+            output,
             c,
             &mut *memory,
             &mut *jobs,
@@ -289,6 +292,7 @@ fn take_byte(
 }
 
 pub(crate) fn take_bytes(
+    output: &impl Print,
     c: Case,
     bytes: &[u8],
     memory: &mut [u64],
@@ -301,6 +305,7 @@ pub(crate) fn take_bytes(
     while i < bytes.len() {
         let byte = bytes[i];
         next = take_byte(
+            output,
             next,
             byte,
             &mut *memory,

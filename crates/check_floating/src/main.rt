@@ -8,19 +8,19 @@ mod results;
 mod show;
 
 // Each pair of the 35 edge operands.
-fn pairs() {
+fn pairs(output: &impl Print) {
     for i in 0..1225usize {
-        results::sums(edges::edge(i / 35), edges::edge(i % 35));
+        results::sums(output, edges::edge(i / 35), edges::edge(i % 35));
     }
 }
 
-fn words() {
+fn words(output: &impl Print) {
     for i in 0..35usize {
-        results::alone(edges::edge(i));
+        results::alone(output, edges::edge(i));
     }
 }
 
-fn main() {
-    pairs();
-    words();
+fn main(rt: HostRuntime) {
+    pairs(&rt);
+    words(&rt);
 }

@@ -7,27 +7,27 @@ use floating_sum::sums::floating_sum;
 use floating_word::special::{is_indefinite, is_infinite};
 
 // Of 30 to 33.
-pub(crate) fn sums(xj: u64, xk: u64)
+pub(crate) fn sums(output: &impl Print, xj: u64, xk: u64)
     requires { (xj < 2 ^ 60) × (xk < 2 ^ 60) }
 {
-    show::word(xj);
-    show::word(xk);
-    show::word(floating_sum(false, false, xj, xk));
-    show::word(floating_sum(true, false, xj, xk));
-    show::word(floating_sum(false, true, xj, xk));
-    show::word(floating_sum(true, true, xj, xk));
-    show::end_line();
+    show::word(output, xj);
+    show::word(output, xk);
+    show::word(output, floating_sum(false, false, xj, xk));
+    show::word(output, floating_sum(true, false, xj, xk));
+    show::word(output, floating_sum(false, true, xj, xk));
+    show::word(output, floating_sum(true, true, xj, xk));
+    show::end_line(output);
 }
 
 // Of 24, and of both tests.
-pub(crate) fn alone(xk: u64)
+pub(crate) fn alone(output: &impl Print, xk: u64)
     requires { xk < 2 ^ 60 }
 {
     let n = normalize(xk);
-    show::word(xk);
-    show::word(n.word);
-    show::short(n.count);
-    show::flag(is_infinite(xk));
-    show::flag(is_indefinite(xk));
-    show::end_line();
+    show::word(output, xk);
+    show::word(output, n.word);
+    show::short(output, n.count);
+    show::flag(output, is_infinite(xk));
+    show::flag(output, is_indefinite(xk));
+    show::end_line(output);
 }

@@ -10,81 +10,86 @@ use word_octal::write::write_octal;
 
 type Text = [u8; 4096];
 
+// A write that fails is passed over: the comparison with the expected output finds what is missing.
+pub(crate) fn write_all(output: &impl Print, bytes: &[u8]) {
+    let _ = output.write_all(bytes);
+}
+
 // Sends the text up to this place to standard output.
-fn flush(text: &[u8], at: usize)
+fn flush(output: &impl Print, text: &[u8], at: usize)
     requires { at ≤ length text.now }
 {
-    io::write_all(1, &text[..at]);
+    write_all(output, &text[..at]);
 }
 
 // A place with room for a space and 22 digits: where this one has less, the text so far is sent and begins anew.
-fn room(text: &Text, at: usize) -> usize
+fn room(output: &impl Print, text: &Text, at: usize) -> usize
     requires { at ≤ 4096 }
     ensures { result ≤ 4073 }
 {
     if at <= 4073 {
         return at;
     }
-    flush(text, at);
+    flush(output, text, at);
     0
 }
 
 // A space and the number.
-fn put(text: &mut Text, at: usize, n: u64) -> usize
+fn put(output: &impl Print, text: &mut Text, at: usize, n: u64) -> usize
     requires { at ≤ 4096 }
     ensures { result ≤ 4096 }
 {
-    let start = room(&*text, at);
+    let start = room(output, &*text, at);
     text[start] = b' ';
     write_octal(&mut *text, start + 1, n)
 }
 
 // The address of a word and the word; nothing of a zero.
-fn put_word(text: &mut Text, at: usize, address: usize, word: u64) -> usize
+fn put_word(output: &impl Print, text: &mut Text, at: usize, address: usize, word: u64) -> usize
     requires { at ≤ 4096 }
     ensures { result ≤ 4096 }
 {
     if word == 0 {
         return at;
     }
-    let next = put(&mut *text, at, address as u64);
-    put(&mut *text, next, word)
+    let next = put(output, &mut *text, at, address as u64);
+    put(output, &mut *text, next, word)
 }
 
-fn put_central(text: &mut Text, at: usize, words: &[u64]) -> usize
+fn put_central(output: &impl Print, text: &mut Text, at: usize, words: &[u64]) -> usize
     requires { at ≤ 4096 }
     ensures { result ≤ 4096 }
 {
-    let mut next = put(&mut *text, at, memory::central_count(words));
+    let mut next = put(output, &mut *text, at, memory::central_count(words));
     let mut i: usize = 0;
     while i < words.len() {
-        next = put_word(&mut *text, next, i, words[i]);
+        next = put_word(output, &mut *text, next, i, words[i]);
         i = i + 1;
     }
     next
 }
 
-fn put_peripheral(text: &mut Text, at: usize, words: &[u16]) -> usize
+fn put_peripheral(output: &impl Print, text: &mut Text, at: usize, words: &[u16]) -> usize
     requires { at ≤ 4096 }
     ensures { result ≤ 4096 }
 {
-    let mut next = put(&mut *text, at, memory::peripheral_count(words));
+    let mut next = put(output, &mut *text, at, memory::peripheral_count(words));
     let mut i: usize = 0;
     while i < words.len() {
-        next = put_word(&mut *text, next, i, words[i] as u64);
+        next = put_word(output, &mut *text, next, i, words[i] as u64);
         i = i + 1;
     }
     next
 }
 
-fn put_record(text: &mut Text, at: usize, numbers: &Numbers) -> usize
+fn put_record(output: &impl Print, text: &mut Text, at: usize, numbers: &Numbers) -> usize
     requires { at ≤ 4096 }
     ensures { result ≤ 4096 }
 {
     let mut next = at;
     let mut i: usize = 0;
     while i < 108 {
-        next = put(&mut *text, next, numbers[RECORD + i]);
+        next = put(output, &mut *text, next, numbers[RECORD + i]);
         i = i + 1;
     }
     next
@@ -102,39 +107,45 @@ fn stint_count(numbers: &Numbers) -> usize
 }
 
 // How many stints there are, then the turns and the stop of each.
-fn put_stints(text: &mut Text, at: usize, numbers: &Numbers) -> usize
+fn put_stints(output: &impl Print, text: &mut Text, at: usize, numbers: &Numbers) -> usize
     requires { at ≤ 4096 }
     ensures { result ≤ 4096 }
 {
     let n = stint_count(numbers);
-    let mut next = put(&mut *text, at, n as u64);
+    let mut next = put(output, &mut *text, at, n as u64);
     let mut i: usize = 0;
     while i < n {
-        next = put(&mut *text, next, numbers[STINTS + i]);
-        next = put(&mut *text, next, numbers[TURNS + i]);
+        next = put(output, &mut *text, next, numbers[STINTS + i]);
+        next = put(output, &mut *text, next, numbers[TURNS + i]);
         i = i + 1;
     }
     next
 }
 
 // Ends the line and sends what is left of it.
-fn end(text: &mut Text, at: usize)
+fn end(output: &impl Print, text: &mut Text, at: usize)
     requires { at ≤ 4096 }
 {
-    let start = room(&*text, at);
+    let start = room(output, &*text, at);
     text[start] = b'\n';
-    flush(&*text, start + 1);
+    flush(output, &*text, start + 1);
 }
 
-pub(crate) fn write(given: Given, central: &[u64], peripheral: &[u16], numbers: &Numbers) {
+pub(crate) fn write(
+    output: &impl Print,
+    given: Given,
+    central: &[u64],
+    peripheral: &[u16],
+    numbers: &Numbers,
+) {
     let mut text = [0u8; 4096];
     let mut at = write_octal(&mut text, 0, given.refusal);
-    at = put(&mut text, at, given.count);
-    at = put(&mut text, at, given.word);
-    at = put(&mut text, at, given.mark);
-    at = put_central(&mut text, at, central);
-    at = put_peripheral(&mut text, at, peripheral);
-    at = put_record(&mut text, at, numbers);
-    at = put_stints(&mut text, at, numbers);
-    end(&mut text, at);
+    at = put(output, &mut text, at, given.count);
+    at = put(output, &mut text, at, given.word);
+    at = put(output, &mut text, at, given.mark);
+    at = put_central(output, &mut text, at, central);
+    at = put_peripheral(output, &mut text, at, peripheral);
+    at = put_record(output, &mut text, at, numbers);
+    at = put_stints(output, &mut text, at, numbers);
+    end(output, &mut text, at);
 }

@@ -15,21 +15,26 @@ mod schedule_call;
 
 use line::{END, Numbers};
 use reader::Reader;
+use std::io::Read;
 
 // Answers the lines that end in the next bytes of the input.
 fn read_some(
+    input: &mut impl Read,
+    output: &impl Print,
     r: Reader,
     central: &mut [u64],
     peripheral: &mut [u16],
     numbers: &mut Numbers,
 ) -> Reader {
-    let mut buffer = io::large_buffer();
-    let got = libc::read(0, &mut buffer);
-    if got <= 0 {
+    let mut buffer = [0u8; 65536];
+    let Ok(n) = input.read(&mut buffer) else {
+        return reader::ended();
+    };
+    if n == 0 {
         return reader::ended();
     }
-    let n = io::count(got, &buffer);
     reader::take_bytes(
+        output,
         r,
         &buffer[..n],
         &mut *central,
@@ -39,11 +44,24 @@ fn read_some(
 }
 
 // A proved loop has to end, and nothing says that the input does: the count is one that no run uses up.
-fn read_all(central: &mut [u64], peripheral: &mut [u16], numbers: &mut Numbers) {
+fn read_all(
+    input: &mut impl Read,
+    output: &impl Print,
+    central: &mut [u64],
+    peripheral: &mut [u16],
+    numbers: &mut Numbers,
+) {
     let mut r = reader::start();
     let mut turns = u64::MAX;
     while 0 < turns {
-        r = read_some(r, &mut *central, &mut *peripheral, &mut *numbers);
+        r = read_some(
+            &mut *input,
+            output,
+            r,
+            &mut *central,
+            &mut *peripheral,
+            &mut *numbers,
+        );
         if reader::is_over(r) {
             return;
         }
@@ -51,9 +69,15 @@ fn read_all(central: &mut [u64], peripheral: &mut [u16], numbers: &mut Numbers) 
     }
 }
 
-fn main() {
+fn main(rt: HostRuntime) {
     let mut central = [0u64; 131073];
     let mut peripheral = [0u16; 45056];
     let mut numbers = [0u64; END];
-    read_all(&mut central, &mut peripheral, &mut numbers);
+    read_all(
+        &mut rt.stdin(),
+        &rt,
+        &mut central,
+        &mut peripheral,
+        &mut numbers,
+    );
 }

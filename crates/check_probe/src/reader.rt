@@ -37,11 +37,16 @@ pub(crate) fn is_over(r: Reader) -> bool {
 }
 
 // Makes the call, writes its answer, and leaves the memories zero for the next line.
-fn answer_call(central: &mut [u64], peripheral: &mut [u16], numbers: &mut Numbers) -> Reader {
+fn answer_call(
+    output: &impl Print,
+    central: &mut [u64],
+    peripheral: &mut [u16],
+    numbers: &mut Numbers,
+) -> Reader {
     let outcome = call::make(&mut *central, &mut *peripheral, &mut *numbers);
     match outcome {
         Outcome::Answer(given) => {
-            answer::write(given, &*central, &*peripheral, &*numbers);
+            answer::write(output, given, &*central, &*peripheral, &*numbers);
             memory::clear_central(&mut *central);
             memory::clear_peripheral(&mut *peripheral);
             start()
@@ -52,6 +57,7 @@ fn answer_call(central: &mut [u64], peripheral: &mut [u16], numbers: &mut Number
 
 // The call of a complete line is made on memories of the lengths that the line gives.
 fn end_line(
+    output: &impl Print,
     p: Position,
     central: &mut [u64],
     peripheral: &mut [u16],
@@ -68,11 +74,17 @@ fn end_line(
     if peripheral.len() < k {
         return ended();
     }
-    answer_call(&mut central[..c], &mut peripheral[..k], &mut *numbers)
+    answer_call(
+        output,
+        &mut central[..c],
+        &mut peripheral[..k],
+        &mut *numbers,
+    )
 }
 
 // One number of the line, and the byte after it.
 fn take_number(
+    output: &impl Print,
     p: Position,
     n: u64,
     byte: u8,
@@ -82,12 +94,13 @@ fn take_number(
 ) -> Reader {
     let next = line::take(p, n, &mut *central, &mut *peripheral, &mut *numbers);
     if byte == b'\n' {
-        return end_line(next, &mut *central, &mut *peripheral, &mut *numbers);
+        return end_line(output, next, &mut *central, &mut *peripheral, &mut *numbers);
     }
     at(next)
 }
 
 fn take_byte(
+    output: &impl Print,
     r: Reader,
     byte: u8,
     central: &mut [u64],
@@ -100,6 +113,7 @@ fn take_byte(
     match fed {
         Fed::More(digits) => Reader { digits, position },
         Fed::Number(n) => take_number(
+            output,
             position,
             n,
             byte,
@@ -112,13 +126,14 @@ fn take_byte(
     }
 }
 
-fn unreadable_line() -> Reader {
-    io::write_all(1, b"unreadable\n");
+fn unreadable_line(output: &impl Print) -> Reader {
+    answer::write_all(output, b"unreadable\n");
     ended()
 }
 
 // Stops at the first line that is not readable.
 pub(crate) fn take_bytes(
+    output: &impl Print,
     r: Reader,
     bytes: &[u8],
     central: &mut [u64],
@@ -130,6 +145,7 @@ pub(crate) fn take_bytes(
     while i < bytes.len() {
         let byte = bytes[i];
         current = take_byte(
+            output,
             current,
             byte,
             &mut *central,
@@ -137,7 +153,7 @@ pub(crate) fn take_bytes(
             &mut *numbers,
         );
         if is_over(current) {
-            return unreadable_line();
+            return unreadable_line(output);
         }
         i = i + 1;
     }

@@ -11,25 +11,25 @@ fn digit(n: u64) -> u8 {
     b'0' + ((n % 8) as u8)
 }
 
-// A line, as `010 30 fit`.
-fn print_line(t: &[u8; 512], n: u64)
+// A line, as `010 30 fit`. A write that fails is passed over: the comparison with the expected output finds what is missing.
+fn print_line(output: &impl Print, t: &[u8; 512], n: u64)
     requires t_value { follows_rule t.now ≡ true }
     requires n_bound { n < 512 }
 {
     let entry = entry_of(t, n);
     let beginning = [digit(n / 64), digit(n / 8), digit(n), b' '];
-    io::write_all(1, &beginning);
-    io::print_decimal(1, entry % UNFIT);
+    let _ = output.write_all(&beginning);
+    let _ = output.print(entry % UNFIT);
     if entry < UNFIT {
-        io::write_all(1, b" fit\n");
+        let _ = output.write_all(b" fit\n");
     } else {
-        io::write_all(1, b" unfit\n");
+        let _ = output.write_all(b" unfit\n");
     }
 }
 
-fn main() {
+fn main(rt: HostRuntime) {
     let t = table();
     for n in 0..512u64 {
-        print_line(&t, n);
+        print_line(&rt, &t, n);
     }
 }

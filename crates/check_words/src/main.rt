@@ -9,38 +9,38 @@ mod values18;
 mod values60;
 
 // Each pair of the twelve edge operands: of words, of 18-bit values, and of an 18-bit value with a word.
-fn pairs() {
+fn pairs(output: &impl Print) {
     for i in 0..144usize {
-        values60::pair(values60::edge(i / 12), values60::edge(i % 12));
-        values18::pair(values18::edge(i / 12), values18::edge(i % 12));
-        values18::with_word(values18::edge(i / 12), values60::edge(i % 12));
+        values60::pair(output, values60::edge(i / 12), values60::edge(i % 12));
+        values18::pair(output, values18::edge(i / 12), values18::edge(i % 12));
+        values18::with_word(output, values18::edge(i / 12), values60::edge(i % 12));
     }
 }
 
 // Each edge operand with each count from 0 to 63.
-fn shifts() {
+fn shifts(output: &impl Print) {
     for i in 0..768u64 {
-        values60::shift(values60::edge((i / 64) as usize), i % 64);
-        values18::shift(values18::edge((i / 64) as usize), i % 64);
+        values60::shift(output, values60::edge((i / 64) as usize), i % 64);
+        values18::shift(output, values18::edge((i / 64) as usize), i % 64);
     }
 }
 
 // Each edge magnitude, in both signs of Bj, with each edge word.
-fn nominal_shifts() {
+fn nominal_shifts(output: &impl Print) {
     for i in 0..192usize {
-        nominal::shifts(nominal::magnitude(i / 12), values60::edge(i % 12));
+        nominal::shifts(output, nominal::magnitude(i / 12), values60::edge(i % 12));
     }
 }
 
-fn words() {
+fn words(output: &impl Print) {
     for i in 0..12usize {
-        values60::alone(values60::edge(i));
+        values60::alone(output, values60::edge(i));
     }
 }
 
-fn main() {
-    pairs();
-    shifts();
-    nominal_shifts();
-    words();
+fn main(rt: HostRuntime) {
+    pairs(&rt);
+    shifts(&rt);
+    nominal_shifts(&rt);
+    words(&rt);
 }

@@ -18,20 +18,20 @@ pub(crate) fn magnitude(i: usize) -> u64
     MAGNITUDES[i] % 0o1000000
 }
 
-fn shift(b: u64, x: u64)
+fn shift(output: &impl Print, b: u64, x: u64)
     requires { (b < 2 ^ 18) × (x < 2 ^ 60) }
 {
-    show::short(b);
-    show::word(x);
-    show::word(nominal(true, b, x));
-    show::word(nominal(false, b, x));
-    show::end_line();
+    show::short(output, b);
+    show::word(output, x);
+    show::word(output, nominal(true, b, x));
+    show::word(output, nominal(false, b, x));
+    show::end_line(output);
 }
 
 // By the magnitude itself, and by its complement.
-pub(crate) fn shifts(b: u64, x: u64)
+pub(crate) fn shifts(output: &impl Print, b: u64, x: u64)
     requires { (b < 2 ^ 18) × (x < 2 ^ 60) }
 {
-    shift(b, x);
-    shift(complement18(b), x);
+    shift(output, b, x);
+    shift(output, complement18(b), x);
 }

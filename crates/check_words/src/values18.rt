@@ -21,47 +21,47 @@ pub(crate) fn edge(i: usize) -> u64
     EDGES[i] % 0o1000000
 }
 
-fn comparisons(a: u64, b: u64) {
-    show::flag(comparison(4, a, b));
-    show::flag(comparison(5, a, b));
-    show::flag(comparison(6, a, b));
-    show::flag(comparison(7, a, b));
+fn comparisons(output: &impl Print, a: u64, b: u64) {
+    show::flag(output, comparison(4, a, b));
+    show::flag(output, comparison(5, a, b));
+    show::flag(output, comparison(6, a, b));
+    show::flag(output, comparison(7, a, b));
 }
 
-pub(crate) fn pair(a: u64, b: u64)
+pub(crate) fn pair(output: &impl Print, a: u64, b: u64)
     requires { (a < 2 ^ 18) × (b < 2 ^ 18) }
 {
-    show::short(a);
-    show::short(b);
-    show::short(sum18(a, b));
-    show::short(difference18(a, b));
-    show::short(logical_product(a, b));
-    show::short(logical_difference(a, b));
-    show::short(selective_clear(a, b));
-    comparisons(a, b);
-    show::end_line();
+    show::short(output, a);
+    show::short(output, b);
+    show::short(output, sum18(a, b));
+    show::short(output, difference18(a, b));
+    show::short(output, logical_product(a, b));
+    show::short(output, logical_difference(a, b));
+    show::short(output, selective_clear(a, b));
+    comparisons(output, a, b);
+    show::end_line(output);
 }
 
-pub(crate) fn shift(a: u64, d: u64)
+pub(crate) fn shift(output: &impl Print, a: u64, d: u64)
     requires { (a < 2 ^ 18) × (d < 64) }
 {
-    show::short(a);
-    show::short(d);
-    show::short(shift_a(d, a));
-    show::short(rotate_left18(a, d % 32));
-    show::short(shift_right18(a, d % 32));
-    show::end_line();
+    show::short(output, a);
+    show::short(output, d);
+    show::short(output, shift_a(d, a));
+    show::short(output, rotate_left18(a, d % 32));
+    show::short(output, shift_right18(a, d % 32));
+    show::end_line(output);
 }
 
-pub(crate) fn with_word(b: u64, x: u64)
+pub(crate) fn with_word(output: &impl Print, b: u64, x: u64)
     requires { (b < 2 ^ 18) × (x < 2 ^ 60) }
 {
-    show::short(b);
-    show::word(x);
-    show::short(complement18(b));
-    show::flag(is_negative18(b));
-    show::short(magnitude18(b));
-    show::word(sign_extend18(b));
-    show::word(pack(b, x));
-    show::end_line();
+    show::short(output, b);
+    show::word(output, x);
+    show::short(output, complement18(b));
+    show::flag(output, is_negative18(b));
+    show::short(output, magnitude18(b));
+    show::word(output, sign_extend18(b));
+    show::word(output, pack(b, x));
+    show::end_line(output);
 }

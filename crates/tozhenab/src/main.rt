@@ -4,6 +4,11 @@
 use console_calls::finish::{OUTPUT_BYTES, Output, finish};
 use console_grammar::progress::{JOB_ENTRIES, STINT_ENTRIES};
 use console_reader::reader::{MEMORY_WORDS, Reader, feed, start};
+use std::io::{ErrorKind, Read};
+use std::process::ExitCode;
+
+// The status where whoever read the answer has left, as a shell gives it of a program that SIGPIPE ended. The runtime has that signal ignored.
+const READER_LEFT: u8 = 141;
 
 // What was read, and whether that is the whole input: a read that fails does not end it.
 #[derive(Drop)]
@@ -14,6 +19,7 @@ struct Source {
 
 // A proved loop has to end, and nothing says that the input does: the count is one that no run uses up.
 fn read_all(
+    input: &mut impl Read,
     memory: &mut [u64],
     jobs: &mut [u64],
     stint_jobs: &mut [u64],
@@ -22,15 +28,19 @@ fn read_all(
     let mut r = start();
     let mut left = u64::MAX;
     while 0 < left {
-        let mut buffer = io::large_buffer();
-        let got = libc::read(0, &mut buffer);
-        if got <= 0 {
+        let mut buffer = [0u8; 65536];
+        let Ok(n) = input.read(&mut buffer) else {
             return Source {
                 reader: r,
-                ended: got == 0,
+                ended: false,
+            };
+        };
+        if n == 0 {
+            return Source {
+                reader: r,
+                ended: true,
             };
         }
-        let n = io::count(got, &buffer);
         let fed = feed(
             r,
             &buffer[..n],
@@ -48,37 +58,51 @@ fn read_all(
     }
 }
 
+fn write_all(rt: &(impl Print + Eprint), bytes: &[u8]) -> ExitCode {
+    let Err(e) = rt.write_all(bytes) else {
+        return ExitCode::SUCCESS;
+    };
+    if e.kind() == ErrorKind::BrokenPipe {
+        return ExitCode::from(READER_LEFT);
+    }
+    let _ = rt.eprintln("tozhenab: the answer cannot be written");
+    ExitCode::FAILURE
+}
+
 fn write_answer(
+    rt: &(impl Print + Eprint),
     r: Reader,
     memory: &mut [u64],
     jobs: &[u64],
     stint_jobs: &[u64],
     stint_turns: &[u64],
-) {
+) -> ExitCode {
     let mut out = [0u8; OUTPUT_BYTES];
     let o = finish(r, &mut *memory, jobs, stint_jobs, stint_turns, &mut out);
     match o {
-        Output::Bytes(n) => {
-            if !io::write_all(1, &out[..n]) {
-                io::write_all(2, b"tozhenab: the answer cannot be written\n");
-            }
-        }
+        Output::Bytes(n) => write_all(rt, &out[..n]),
         // Of slices with the lengths that `main` gives them, no number refuses one.
-        Output::Refused(_) => {}
+        Output::Refused(_) => ExitCode::SUCCESS,
     }
 }
 
 // Nothing is answered where a part of the input may be missing.
-fn main() {
+fn main(rt: HostRuntime) -> ExitCode {
     let mut memory = [0u64; MEMORY_WORDS];
     let mut jobs = [0u64; JOB_ENTRIES];
     let mut stint_jobs = [0u64; STINT_ENTRIES];
     let mut stint_turns = [0u64; STINT_ENTRIES];
-    let source = read_all(&mut memory, &mut jobs, &mut stint_jobs, &mut stint_turns);
+    let source = read_all(
+        &mut rt.stdin(),
+        &mut memory,
+        &mut jobs,
+        &mut stint_jobs,
+        &mut stint_turns,
+    );
     if !source.ended {
-        io::write_all(2, b"tozhenab: the input cannot be read to its end\n");
-        return;
+        let _ = rt.eprintln("tozhenab: the input cannot be read to its end");
+        return ExitCode::FAILURE;
     }
     let r = source.reader;
-    write_answer(r, &mut memory, &jobs, &stint_jobs, &stint_turns);
+    write_answer(&rt, r, &mut memory, &jobs, &stint_jobs, &stint_turns)
 }

@@ -1,7 +1,6 @@
 -- `check_words::show::octal` meets its contract.
 use mathlib.Core.Path.{◌≡◌}
 use Prim.Native.Nat.{◌≤◌, ◌-◌}
-use borrow.Author.Rules.{rules}
 use lib.ListN.{length}
 use Rattle.check_words.proofs.show.octal.Given as goal
 

@@ -43,7 +43,7 @@ pub loop-i-preserved : goal.loop-i-preserved
 loop-i-preserved c =
     let loop = c.loop-i in
     one-row-stored (λ j. refl) loop.invariant c.loop-i-test.true
-    (pair-stored loop.result loop.i c.entry.ensures c.entry-in-loop-i.ensures)
+    (pair-stored loop.res loop.i c.entry.ensures c.entry-in-loop-i.ensures)
 
 pub shape_of-res : goal.shape_of-res
 shape_of-res c = length-stored c.loop-i.invariant

@@ -34,7 +34,7 @@ pub all_apart-requires : goal.all_apart-requires
 all_apart-requires c =
     record {
       packages = sym c.packages_inside.ensures ∙ c.if-not-packages_inside.false;
-      c = sym c.fields_inside-inside.ensures ∙ c.if-not-inside.false;
+      fields = sym c.fields_inside-inside.ensures ∙ c.if-not-inside.false;
       at_most = c.requires;
     }
 
