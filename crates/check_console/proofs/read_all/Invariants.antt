@@ -1,6 +1,5 @@
 -- `check_console::read_all` meets its contract.
 use mathlib.Core.Path.{◌≡◌}
-use borrow.Author.Rules.{rules}
 use lib.ListN.{length}
 use Rattle.check_console.proofs.read_all.Given as goal
 

@@ -1,6 +1,5 @@
 -- `check_probe::read_all` meets its contract.
 use mathlib.Core.Path.{◌≡◌}
-use borrow.Author.Rules.{rules}
 use lib.ListN.{length}
 use Rattle.check_probe.proofs.read_all.Given as goal
 

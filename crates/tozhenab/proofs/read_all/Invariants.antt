@@ -1,6 +1,5 @@
 -- `tozhenab::read_all` meets its contract.
 use mathlib.Core.Path.{◌≡◌}
-use borrow.Author.Rules.{rules}
 use lib.ListN.{length}
 use Rattle.tozhenab.proofs.read_all.Given as goal
 

@@ -1,6 +1,5 @@
 -- `tozhenab::write_answer` meets its contract.
 use mathlib.Core.Path.{sym}
-use borrow.Author.Rules.{rules}
 use lib.Seq.{length-take-le}
 use Rattle.console_calls.specs.Laws.Length.{bytes_inside}
 use Rattle.tozhenab.proofs.write_answer.Goals as goal

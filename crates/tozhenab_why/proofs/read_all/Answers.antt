@@ -1,7 +1,5 @@
 -- `tozhenab_why::read_all` meets its contract.
-use mathlib.Core.Path.{◌≡◌, ◌∙◌}
-use borrow.Author.Rules.{rules}
-use lib.ListN.{length}
+use mathlib.Core.Path.{◌∙◌}
 use Rattle.tozhenab_why.proofs.read_all.Goals as goal
 
 pub loop-left-preserved : goal.loop-left-preserved

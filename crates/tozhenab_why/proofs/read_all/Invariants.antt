@@ -1,6 +1,5 @@
 -- `tozhenab_why::read_all` meets its contract.
-use mathlib.Core.Path.{◌≡◌, ◌∙◌}
-use borrow.Author.Rules.{rules}
+use mathlib.Core.Path.{◌≡◌}
 use lib.ListN.{length}
 use Rattle.tozhenab_why.proofs.read_all.Given as goal
 

@@ -1,6 +1,5 @@
 -- `tozhenab_why::write_reason` meets its contract.
 use mathlib.Core.Path.{sym}
-use borrow.Author.Rules.{rules}
 use lib.Seq.{length-take-le}
 use Rattle.console_reason.specs.Laws.Text.{reason-inside}
 use Rattle.tozhenab_why.proofs.write_reason.Goals as goal

@@ -1,7 +1,6 @@
 -- `base_lists::overlap::shares_word` meets its contract.
 use native.Mathlib.Omega.{arith}
 use borrow.Author.Tests.{lt-ltb, le-ltb}
-use borrow.Author.Rules.{rules}
 use Rattle.base_lists.specs.Overlap.{shares_word}
 use Rattle.base_lists.proofs.overlap.shares_word.Goals as goal
 

@@ -1,6 +1,5 @@
 -- `central_apply::apply::apply` meets its contract.
 use mathlib.Core.Path.{subst}
-use borrow.Author.Rules.{rules}
 use Rattle.central_effect.specs.Sound.{CentralSound}
 use Rattle.central_apply.specs.Apply.{applied}
 use Rattle.central_apply.proofs.apply.apply.Goals as goal

@@ -1,7 +1,6 @@
 -- `central_apply::apply::refer` meets its contract.
 use mathlib.Core.Path.{subst}
 use borrow.Author.Tests.{lt-ltb, le-ltb, eq-eqb, ne_eqb}
-use borrow.Author.Rules.{rules}
 use lib.Bits.{and_mask}
 use Rattle.central_field.specs.Address.{Within}
 use Rattle.central_apply.specs.Apply.{referred}

@@ -1,6 +1,5 @@
 -- `central_apply::apply::return_jump` meets its contract.
 use mathlib.Core.Path.{subst, sym, ◌∙◌}
-use borrow.Author.Rules.{rules}
 use Rattle.central_apply.specs.Apply.{return_jumped}
 use Rattle.central_field.specs.Laws.Address.{place-within}
 use Rattle.central_field.specs.Address.{Within}

@@ -1,7 +1,6 @@
 -- `central_apply::apply::set_a` meets its contract.
 use native.Mathlib.Omega.{arith}
 use borrow.Author.Tests.{eq-eqb, ne_eqb}
-use borrow.Author.Rules.{rules}
 use Rattle.central_apply.specs.Apply.{a_set}
 use Rattle.central_field.specs.Laws.Address.{place-within}
 use Rattle.central_apply.proofs.apply.set_a.Goals as goal

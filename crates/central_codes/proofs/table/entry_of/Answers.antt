@@ -1,6 +1,5 @@
 -- `central_codes::table::entry_of` meets its contract.
 use mathlib.Core.Path.{◌∙◌}
-use borrow.Author.Rules.{rules}
 use Rattle.central_codes.specs.Laws.Table.{rule-at}
 use Rattle.central_codes.proofs.table.entry_of.Goals as goal
 

@@ -1,7 +1,6 @@
 -- `central_condition::conditions::comparison` meets its contract.
 use mathlib.Core.Path.{◌≡◌}
 use native.Mathlib.Omega.{arith}
-use borrow.Author.Rules.{rules}
 use Rattle.central_condition.specs.Conditions.{comparison}
 use Rattle.central_condition.proofs.conditions.comparison.Goals as goal
 

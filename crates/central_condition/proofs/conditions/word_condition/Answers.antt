@@ -1,9 +1,7 @@
 -- `central_condition::conditions::word_condition` meets its contract.
 use native.Mathlib.Omega.{arith}
 use Rattle.std.specs.Prelude.{◌≡◌}
-use borrow.Author.Rules.{rules}
 use Rattle.central_condition.specs.Conditions.{word_condition}
-use Rattle.base_logic.specs.Laws.Match.{last_arm}
 use Rattle.central_condition.proofs.conditions.word_condition.Goals as goal
 
 pub returns-in-0 : goal.returns-in-0

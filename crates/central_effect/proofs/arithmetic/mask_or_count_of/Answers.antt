@@ -1,9 +1,7 @@
 -- `central_effect::arithmetic::mask_or_count_of` meets its contract.
-use Prim.Native.Nat.{ℕ}
 use mathlib.Core.Path.{◌≡◌}
 use native.Mathlib.Omega.{arith}
 use borrow.Author.Tests.{ne_eqb}
-use borrow.Author.Rules.{rules}
 use Rattle.central_effect.specs.Effects.{mask_or_count_of}
 use Rattle.central_effect.proofs.arithmetic.mask_or_count_of.Goals as goal
 

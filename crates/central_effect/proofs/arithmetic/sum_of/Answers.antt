@@ -1,8 +1,6 @@
 -- `central_effect::arithmetic::sum_of` meets its contract.
 use native.Mathlib.Omega.{arith}
 use Rattle.std.specs.Prelude.{◌≡◌}
-use borrow.Author.Rules.{rules}
-use Rattle.base_logic.specs.Laws.Match.{last_arm}
 use Rattle.central_effect.specs.Floating.{floating_sum_to}
 use Rattle.central_effect.specs.Effects.{sum_of}
 use Rattle.central_effect.proofs.arithmetic.sum_of.Goals as goal

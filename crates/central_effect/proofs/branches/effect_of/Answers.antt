@@ -1,7 +1,6 @@
 -- `central_effect::branches::effect_of` meets its contract.
 use Prim.Native.Nat.{◌≤◌}
 use native.Mathlib.Omega.{arith}
-use borrow.Author.Rules.{rules}
 use lib.ListN.{get_or-eq_default}
 use Rattle.central_effect.specs.Effects.{first_branches, branch_of}
 use Rattle.central_effect.proofs.branches.effect_of.Goals as goal

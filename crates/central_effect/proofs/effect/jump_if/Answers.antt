@@ -1,5 +1,4 @@
 -- `central_effect::effect::jump_if` meets its contract.
-use borrow.Author.Rules.{rules}
 use Rattle.central_effect.proofs.effect.jump_if.Goals as goal
 
 pub returns-then-taken : goal.returns-then-taken

@@ -1,7 +1,6 @@
 -- `central_effect::floating::em_set` meets its contract.
 use mathlib.Core.Path.{ap}
 use Prim.Native.Nat.{ℕ, ◌/◌, ◌^◌}
-use borrow.Author.Rules.{rules}
 use lib.Bits.{and_mask}
 use lib.Dec.{eqb}
 use Rattle.central_effect.proofs.floating.em_set.Goals as goal

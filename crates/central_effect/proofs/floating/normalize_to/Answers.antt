@@ -1,5 +1,4 @@
 -- `central_effect::floating::normalize_to` meets its contract.
-use borrow.Author.Rules.{rules}
 use Rattle.central_effect.specs.Floating.{normalize_to}
 use Rattle.central_effect.proofs.floating.normalize_to.Goals as goal
 

@@ -1,6 +1,5 @@
 -- `central_effect::floating::stops_on_indefinite` meets its contract.
 use mathlib.Core.Path.{sym, ◌∙◌}
-use borrow.Author.Rules.{rules}
 use Rattle.central_effect.proofs.floating.stops_on_indefinite.Goals as goal
 
 pub returns-then-em_set : goal.returns-then-em_set

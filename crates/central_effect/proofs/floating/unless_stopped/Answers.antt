@@ -1,6 +1,5 @@
 -- `central_effect::floating::unless_stopped` meets its contract.
 use mathlib.Core.Path.{sym, ◌∙◌}
-use borrow.Author.Rules.{rules}
 use Rattle.central_effect.specs.Floating.{unless_stopped}
 use Rattle.central_effect.proofs.floating.unless_stopped.Goals as goal
 

@@ -1,8 +1,6 @@
 -- `central_effect::increments::operand` meets its contract.
 use native.Mathlib.Omega.{arith}
 use Rattle.std.specs.Prelude.{◌≡◌}
-use borrow.Author.Rules.{rules}
-use Rattle.base_logic.specs.Laws.Match.{last_arm}
 use Rattle.central_effect.specs.Effects.{operand_of}
 use Rattle.central_effect.proofs.increments.operand.Goals as goal
 

@@ -1,7 +1,6 @@
 -- `central_effect::listing::effect_of` meets its contract: what the arms ask for, then what each of the 64 gives.
 use mathlib.Core.Path.{◌∙◌, sym}
 use native.Mathlib.Omega.{arith}
-use borrow.Author.Rules.{rules}
 use Rattle.central_effect.specs.Laws.Effects.{effect-at-top}
 use Rattle.central_effect.proofs.listing.effect_of.Goals as goal
 

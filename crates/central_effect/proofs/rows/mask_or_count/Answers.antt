@@ -1,5 +1,4 @@
 -- `central_effect::rows::mask_or_count` meets its contract.
-use borrow.Author.Rules.{rules}
 use Rattle.central_effect.proofs.rows.mask_or_count.Goals as goal
 
 pub returns : goal.returns

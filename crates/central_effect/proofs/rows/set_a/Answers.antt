@@ -1,5 +1,4 @@
 -- `central_effect::rows::set_a` meets its contract.
-use borrow.Author.Rules.{rules}
 use Rattle.central_effect.proofs.rows.set_a.Goals as goal
 
 pub returns : goal.returns

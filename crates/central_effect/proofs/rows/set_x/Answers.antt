@@ -1,6 +1,5 @@
 -- `central_effect::rows::set_x` meets its contract.
 use Rattle.central_effect.specs.Laws.Effects.{operand-lt}
-use borrow.Author.Rules.{rules}
 use Rattle.central_effect.proofs.rows.set_x.Goals as goal
 
 pub sign_extend18-requires : goal.sign_extend18-requires

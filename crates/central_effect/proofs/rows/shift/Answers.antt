@@ -1,5 +1,4 @@
 -- `central_effect::rows::shift` meets its contract.
-use borrow.Author.Rules.{rules}
 use Rattle.central_effect.proofs.rows.shift.Goals as goal
 
 pub returns : goal.returns

@@ -1,5 +1,4 @@
 -- `central_effect::rows::sum` meets its contract.
-use borrow.Author.Rules.{rules}
 use Rattle.central_effect.proofs.rows.sum.Goals as goal
 
 pub returns : goal.returns

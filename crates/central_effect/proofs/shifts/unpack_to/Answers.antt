@@ -1,5 +1,4 @@
 -- `central_effect::shifts::unpack_to` meets its contract.
-use borrow.Author.Rules.{rules}
 use Rattle.word_shift.specs.Floating.{unpacked_from}
 use Rattle.central_effect.specs.Effects.{unpack_to}
 use Rattle.central_effect.proofs.shifts.unpack_to.Goals as goal

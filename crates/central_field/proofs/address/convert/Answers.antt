@@ -1,6 +1,5 @@
 -- `central_field::address::convert` meets its contract.
 use borrow.Author.Tests.{lt-ltb, le-ltb}
-use borrow.Author.Rules.{rules}
 use Rattle.central_field.specs.Address.{place_of}
 use Rattle.central_field.proofs.address.convert.Goals as goal
 

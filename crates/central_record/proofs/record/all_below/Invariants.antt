@@ -1,11 +1,8 @@
 -- `central_record::record::all_below` meets its contract.
 use Prim.Native.Nat.{◌-◌}
-use native.Mathlib.Omega.{arith}
-use borrow.Author.Rules.{rules}
-use borrow.Author.Tests.{lt-ltb, le-ltb}
 use lib.ListN.{length}
 use Rattle.central_record.specs.Record.{below}
-use Rattle.base_lists.specs.Laws.Indexed.{Passed, none_yet, one_more, all-passed, one-fails}
+use Rattle.base_lists.specs.Laws.Indexed.{Passed}
 use Rattle.central_record.proofs.record.all_below.Given as goal
 
 abbrev pub invariant-loop-i : goal.invariant-loop-i

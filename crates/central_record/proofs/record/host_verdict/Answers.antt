@@ -1,8 +1,6 @@
 -- `central_record::record::host_verdict` meets its contract.
 use Rattle.std.proofs.Common.{sym, ◌∙◌}
-use Rattle.base_logic.specs.Laws.Tests.{holds, fails}
 use Rattle.central_record.specs.Record.{host_verdict}
-use borrow.Author.Rules.{rules}
 use Rattle.central_record.proofs.record.host_verdict.Goals as goal
 
 pub returns-then-not-length_fits : goal.returns-then-not-length_fits

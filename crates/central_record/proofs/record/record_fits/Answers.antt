@@ -3,8 +3,6 @@ use mathlib.Core.Path.{sym, ◌∙◌}
 use Prim.Native.Nat.{◌+◌, ◌^◌}
 use native.Mathlib.Omega.{arith}
 use borrow.Author.Tests.{lt-ltb, le-ltb, le-leb, lt-leb, eq-eqb, ne_eqb}
-use borrow.Author.Rules.{rules}
-use Rattle.base_logic.specs.Laws.Tests.{holds, fails}
 use Rattle.central_record.specs.Record.{record_fits}
 use Rattle.central_record.proofs.record.record_fits.Goals as goal
 

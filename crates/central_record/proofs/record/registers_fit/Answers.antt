@@ -1,11 +1,10 @@
 -- `central_record::record::registers_fit` meets its contract.
 use Prim.Native.Nat.{◌≤◌, ◌<◌, ◌-◌, ◌^◌}
 use native.Mathlib.Omega.{arith}
-use borrow.Author.Rules.{rules}
 use borrow.Author.Tests.{lt-ltb, le-ltb}
 use lib.ListN.{get_or}
 use Rattle.central_record.specs.Record.{register_width, register_fits, registers_fit}
-use Rattle.base_lists.specs.Laws.Indexed.{Passed, none_yet, one_more, all-passed, one-fails}
+use Rattle.base_lists.specs.Laws.Indexed.{none_yet, one_more, all-passed, one-fails}
 use Rattle.central_record.proofs.record.registers_fit.Goals as goal
 
 pub loop-i-init : goal.loop-i-init

@@ -1,11 +1,7 @@
 -- `central_record::record::registers_fit` meets its contract.
-use Prim.Native.Nat.{◌≤◌, ◌<◌, ◌-◌, ◌^◌}
-use native.Mathlib.Omega.{arith}
-use borrow.Author.Rules.{rules}
-use borrow.Author.Tests.{lt-ltb, le-ltb}
-use lib.ListN.{get_or}
-use Rattle.central_record.specs.Record.{register_width, register_fits, registers_fit}
-use Rattle.base_lists.specs.Laws.Indexed.{Passed, none_yet, one_more, all-passed, one-fails}
+use Prim.Native.Nat.{◌-◌}
+use Rattle.central_record.specs.Record.{register_fits}
+use Rattle.base_lists.specs.Laws.Indexed.{Passed}
 use Rattle.central_record.proofs.record.registers_fit.Given as goal
 
 abbrev pub invariant-loop-i : goal.invariant-loop-i

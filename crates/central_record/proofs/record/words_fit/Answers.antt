@@ -1,10 +1,8 @@
 -- `central_record::record::words_fit` meets its contract.
 use Prim.Native.Nat.{◌-◌}
 use native.Mathlib.Omega.{arith}
-use borrow.Author.Rules.{rules}
-use lib.ListN.{length}
 use Rattle.central_record.specs.Record.{words_fit}
-use Rattle.central_record.specs.Laws.Widths.{Joined, none-joined, one-joined, all-joined}
+use Rattle.central_record.specs.Laws.Widths.{none-joined, one-joined, all-joined}
 use Rattle.central_record.proofs.record.words_fit.Goals as goal
 
 pub loop-i-init : goal.loop-i-init

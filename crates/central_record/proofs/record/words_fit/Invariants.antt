@@ -1,10 +1,7 @@
 -- `central_record::record::words_fit` meets its contract.
 use Prim.Native.Nat.{◌-◌}
-use native.Mathlib.Omega.{arith}
-use borrow.Author.Rules.{rules}
 use lib.ListN.{length}
-use Rattle.central_record.specs.Record.{words_fit}
-use Rattle.central_record.specs.Laws.Widths.{Joined, none-joined, one-joined, all-joined}
+use Rattle.central_record.specs.Laws.Widths.{Joined}
 use Rattle.central_record.proofs.record.words_fit.Given as goal
 
 abbrev pub invariant-loop-i : goal.invariant-loop-i

@@ -1,7 +1,6 @@
 -- `central_registers::registers::a_of` meets its contract.
 use mathlib.Core.Path.{refl}
 use native.Mathlib.Omega.{arith}
-use borrow.Author.Rules.{rules}
 use Rattle.central_registers.proofs.registers.a_of.Goals as goal
 
 pub returns : goal.returns

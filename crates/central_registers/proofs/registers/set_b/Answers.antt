@@ -1,6 +1,5 @@
 -- `central_registers::registers::set_b` meets its contract.
 use borrow.Author.Tests.{eq-eqb, ne_eqb}
-use borrow.Author.Rules.{rules}
 use Rattle.central_registers.specs.Registers.{set_b}
 use Rattle.central_registers.proofs.registers.set_b.Goals as goal
 

@@ -1,7 +1,6 @@
 -- `central_registers::registers::x_of` meets its contract.
 use mathlib.Core.Path.{refl}
 use Prim.Native.Nat.{◌+◌}
-use borrow.Author.Rules.{rules}
 use Rattle.central_registers.proofs.registers.x_of.Goals as goal
 
 pub returns : goal.returns

@@ -1,6 +1,5 @@
 -- `central_turn::step::step` meets its contract.
 use native.Mathlib.Omega.{arith}
-use borrow.Author.Rules.{rules}
 use lib.Pow.{shr_lt}
 use Rattle.central_decode.specs.Laws.Shifted.{top-fits}
 use Rattle.central_effect.specs.Laws.Effects.{effect-sound}

@@ -1,9 +1,7 @@
 -- `central_turn::turn::run_word` meets its contract.
 use mathlib.Core.Path.{◌∙◌, sym}
 use native.Mathlib.Omega.{arith}
-use borrow.Author.Rules.{rules}
-use Rattle.central_apply.specs.State.{state}
-use Rattle.central_turn.specs.Laws.Shifted.{Shifted, shifted_start, shifted-on, shifted-branch, shifted-stop, shifted_end}
+use Rattle.central_turn.specs.Laws.Shifted.{shifted_start, shifted-on, shifted-branch, shifted-stop, shifted_end}
 use Rattle.central_turn.proofs.turn.run_word.Goals as goal
 
 pub loop-remaining-init : goal.loop-remaining-init

@@ -1,9 +1,6 @@
 -- `central_turn::turn::run_word` meets its contract.
-use mathlib.Core.Path.{◌∙◌, sym}
-use native.Mathlib.Omega.{arith}
-use borrow.Author.Rules.{rules}
 use Rattle.central_apply.specs.State.{state}
-use Rattle.central_turn.specs.Laws.Shifted.{Shifted, shifted_start, shifted-on, shifted-branch, shifted-stop, shifted_end}
+use Rattle.central_turn.specs.Laws.Shifted.{Shifted}
 use Rattle.central_turn.proofs.turn.run_word.Given as goal
 
 abbrev pub invariant-loop-remaining : goal.invariant-loop-remaining

@@ -4,7 +4,6 @@ use Rattle.central_field.specs.Address.{Within}
 use Rattle.central_turn.specs.Turn.{turn_of}
 use Rattle.central_field.specs.Laws.Address.{place-within, inside-below}
 use Rattle.central_field.specs.declared.address.Place.{Place}
-use borrow.Author.Rules.{rules}
 use Rattle.central_turn.proofs.turn.turn.Goals as goal
 
 pub index-n-requires : goal.index-n-requires

@@ -1,8 +1,7 @@
 -- `central_turn::turn::turns` meets its contract.
 use mathlib.Core.Path.{◌∙◌, sym}
 use native.Mathlib.Omega.{arith}
-use Rattle.central_apply.specs.State.{state}
-use Rattle.central_turn.specs.Laws.Run.{RunGoing, run-going-start, run-going-on, run-going-stop, run-going-end}
+use Rattle.central_turn.specs.Laws.Run.{run-going-start, run-going-on, run-going-stop, run-going-end}
 use Rattle.central_turn.proofs.turn.turns.Goals as goal
 
 pub loop-left-init : goal.loop-left-init

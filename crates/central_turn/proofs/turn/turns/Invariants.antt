@@ -1,8 +1,6 @@
 -- `central_turn::turn::turns` meets its contract.
-use mathlib.Core.Path.{◌∙◌, sym}
-use native.Mathlib.Omega.{arith}
 use Rattle.central_apply.specs.State.{state}
-use Rattle.central_turn.specs.Laws.Run.{RunGoing, run-going-start, run-going-on, run-going-stop, run-going-end}
+use Rattle.central_turn.specs.Laws.Run.{RunGoing}
 use Rattle.central_turn.proofs.turn.turns.Given as goal
 
 abbrev pub invariant-loop-left : goal.invariant-loop-left

@@ -1,6 +1,5 @@
 -- `check_console::answer::write` meets its contract.
 use mathlib.Core.Path.{sym}
-use borrow.Author.Rules.{rules}
 use lib.Seq.{length-take-le}
 use Rattle.console_calls.specs.Laws.Length.{bytes_inside}
 use Rattle.check_console.proofs.answer.write.Goals as goal

@@ -1,7 +1,6 @@
 -- `check_console::cases::take_bytes` meets its contract.
 use mathlib.Core.Path.{◌≡◌}
 use Prim.Native.Nat.{◌-◌}
-use borrow.Author.Rules.{rules}
 use lib.ListN.{length}
 use Rattle.check_console.proofs.cases.take_bytes.Given as goal
 

@@ -1,6 +1,5 @@
 -- `check_probe::answer::flush` meets its contract.
 use mathlib.Core.Path.{sym}
-use borrow.Author.Rules.{rules}
 use lib.Seq.{length-take-le}
 use Rattle.check_probe.proofs.answer.flush.Goals as goal
 

@@ -1,6 +1,5 @@
 -- `check_probe::answer::put_central` meets its contract.
 use Prim.Native.Nat.{◌≤◌, ◌-◌}
-use borrow.Author.Rules.{rules}
 use lib.ListN.{length}
 use Rattle.check_probe.proofs.answer.put_central.Given as goal
 

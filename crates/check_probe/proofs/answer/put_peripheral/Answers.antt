@@ -1,8 +1,6 @@
 -- `check_probe::answer::put_peripheral` meets its contract.
-use Prim.Native.Nat.{◌≤◌, ◌-◌}
+use Prim.Native.Nat.{◌-◌}
 use native.Mathlib.Omega.{arith}
-use borrow.Author.Rules.{rules}
-use lib.ListN.{length}
 use Rattle.check_probe.proofs.answer.put_peripheral.Goals as goal
 
 pub overflow_cast-words : goal.overflow_cast-words

@@ -1,7 +1,5 @@
 -- `check_probe::answer::put_peripheral` meets its contract.
 use Prim.Native.Nat.{◌≤◌, ◌-◌}
-use native.Mathlib.Omega.{arith}
-use borrow.Author.Rules.{rules}
 use lib.ListN.{length}
 use Rattle.check_probe.proofs.answer.put_peripheral.Given as goal
 

@@ -1,6 +1,5 @@
 -- `check_probe::answer::put_record` meets its contract.
 use Prim.Native.Nat.{◌≤◌, ◌-◌}
-use borrow.Author.Rules.{rules}
 use Rattle.check_probe.proofs.answer.put_record.Given as goal
 
 abbrev pub invariant-loop-i : goal.invariant-loop-i

@@ -1,6 +1,5 @@
 -- `check_probe::answer::put_stints` meets its contract.
 use Prim.Native.Nat.{◌≤◌, ◌-◌}
-use borrow.Author.Rules.{rules}
 use Rattle.check_probe.proofs.answer.put_stints.Given as goal
 
 abbrev pub invariant-loop-i : goal.invariant-loop-i

@@ -1,6 +1,5 @@
 -- `check_probe::answer::write` meets its contract.
 use native.Mathlib.Omega.{arith}
-use borrow.Author.Rules.{rules}
 use Rattle.word_octal.specs.Laws.Write.{length-octal}
 use Rattle.check_probe.proofs.answer.write.Goals as goal
 

@@ -1,9 +1,7 @@
 -- `check_probe::memory::central_count` meets its contract.
 use mathlib.Core.Logic.{⊎_elim}
-use Prim.Native.Nat.{◌≤◌, ◌-◌}
+use Prim.Native.Nat.{◌-◌}
 use native.Mathlib.Omega.{arith}
-use borrow.Author.Rules.{rules}
-use lib.ListN.{length}
 use Rattle.check_probe.proofs.memory.central_count.Goals as goal
 
 pub loop-i-preserved : goal.loop-i-preserved

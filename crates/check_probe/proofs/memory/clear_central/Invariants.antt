@@ -1,7 +1,6 @@
 -- `check_probe::memory::clear_central` meets its contract.
 use mathlib.Core.Path.{◌≡◌}
 use Prim.Native.Nat.{◌-◌}
-use borrow.Author.Rules.{rules}
 use lib.ListN.{length}
 use Rattle.check_probe.proofs.memory.clear_central.Given as goal
 

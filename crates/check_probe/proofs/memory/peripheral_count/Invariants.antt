@@ -1,8 +1,5 @@
 -- `check_probe::memory::peripheral_count` meets its contract.
-use mathlib.Core.Logic.{⊎_elim}
 use Prim.Native.Nat.{◌≤◌, ◌-◌}
-use native.Mathlib.Omega.{arith}
-use borrow.Author.Rules.{rules}
 use lib.ListN.{length}
 use Rattle.check_probe.proofs.memory.peripheral_count.Given as goal
 

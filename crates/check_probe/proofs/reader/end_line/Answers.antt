@@ -1,6 +1,5 @@
 -- `check_probe::reader::end_line` meets its contract.
 use mathlib.Core.Path.{sym}
-use borrow.Author.Rules.{rules}
 use lib.Seq.{length-take-le}
 use Rattle.check_probe.proofs.reader.end_line.Goals as goal
 

@@ -1,7 +1,6 @@
 -- `check_probe::reader::take_bytes` meets its contract.
 use mathlib.Core.Path.{◌≡◌}
 use Prim.Native.Nat.{◌-◌}
-use borrow.Author.Rules.{rules}
 use lib.ListN.{length}
 use Rattle.check_probe.proofs.reader.take_bytes.Given as goal
 

@@ -1,6 +1,5 @@
 -- `check_probe::schedule_call::keep_stints` meets its contract.
 use Prim.Native.Nat.{◌≤◌, ◌-◌}
-use borrow.Author.Rules.{rules}
 use Rattle.shared_limits.specs.Limits.{most_stints}
 use Rattle.check_probe.proofs.schedule_call.keep_stints.Given as goal
 

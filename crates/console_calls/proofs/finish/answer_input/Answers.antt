@@ -1,9 +1,7 @@
 -- `console_calls::finish::answer_input` meets its contract.
 use mathlib.Core.Path.{◌∙◌, sym}
 use native.Mathlib.Omega.{arith}
-use borrow.Author.Rules.{rules}
 use lib.Seq.{length-take-le}
-use Rattle.base_logic.specs.Laws.Tests.{holds, fails}
 use Rattle.console_reader.specs.Laws.Feeding.{complete-is}
 use Rattle.console_calls.specs.Laws.Finish.{take_short, finish-short, finish-unreadable, finish-run}
 use Rattle.console_calls.proofs.finish.answer_input.Goals as goal

@@ -1,6 +1,5 @@
 -- `console_calls::run::print` meets its contract.
 use native.Mathlib.Omega.{arith}
-use borrow.Author.Rules.{rules}
 use Rattle.console_calls.specs.Laws.Print.{room-left, prints-accepted, prints-refused}
 use Rattle.console_calls.proofs.run.print.Goals as goal
 

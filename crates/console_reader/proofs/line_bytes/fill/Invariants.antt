@@ -1,9 +1,7 @@
 -- `console_reader::line_bytes::fill` meets its contract.
 use Prim.Native.Nat.{◌-◌}
-use native.Mathlib.Omega.{arith}
-use borrow.Author.Rules.{rules}
 use lib.ListN.{length}
-use Rattle.console_reader.specs.Laws.LineBytes.{Filling, filling-start, filling-byte, filling-over, filled-to-line-feed, filled-to-end}
+use Rattle.console_reader.specs.Laws.LineBytes.{Filling}
 use Rattle.console_reader.proofs.line_bytes.fill.Given as goal
 
 abbrev pub invariant-loop-at : goal.invariant-loop-at

@@ -1,14 +1,10 @@
 -- `console_reader::reader::feed_all` meets its contract.
-use mathlib.Core.Path.{◌≡◌, refl, sym, ◌∙◌}
+use mathlib.Core.Path.{◌≡◌}
 use Prim.Native.Nat.{◌-◌}
-use native.Mathlib.Omega.{arith}
-use borrow.Author.Rules.{rules}
 use lib.ListN.{length}
-use lib.Seq.{length-take-le}
 use Rattle.console_grammar.specs.Held.{lists}
 use Rattle.console_reader.specs.Reader.{with_line}
-use Rattle.console_reader.specs.Laws.LineBytes.{filled-fits}
-use Rattle.console_reader.specs.Laws.Feeding.{FeedingOn, feeding-start, feeding-filled, feeding-line, feeding-end}
+use Rattle.console_reader.specs.Laws.Feeding.{FeedingOn}
 use Rattle.console_reader.proofs.reader.feed_all.Given as goal
 
 abbrev pub invariant-loop-at : goal.invariant-loop-at

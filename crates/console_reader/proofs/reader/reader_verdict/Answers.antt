@@ -1,8 +1,6 @@
 -- `console_reader::reader::reader_verdict` meets its contract.
 use Rattle.std.proofs.Common.{sym, ◌∙◌}
-use borrow.Author.Rules.{rules}
 use borrow.Author.Tests.{eq-eqb, ne_eqb}
-use Rattle.base_logic.specs.Laws.Tests.{holds, fails}
 use Rattle.console_reader.specs.Reader.{reader_verdict}
 use Rattle.console_reader.proofs.reader.reader_verdict.Goals as goal
 

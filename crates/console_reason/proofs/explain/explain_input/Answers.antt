@@ -1,6 +1,5 @@
 -- `console_reason::explain::explain_input` meets its contract.
 use native.Mathlib.Omega.{arith}
-use borrow.Author.Rules.{rules}
 use Rattle.console_reason.specs.Laws.Text.{reason-short, reason-written}
 use Rattle.console_reason.proofs.explain.explain_input.Goals as goal
 

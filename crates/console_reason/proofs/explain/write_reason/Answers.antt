@@ -1,7 +1,6 @@
 -- `console_reason::explain::write_reason` meets its contract.
 use mathlib.Core.Path.{sym}
 use native.Mathlib.Omega.{arith}
-use borrow.Author.Rules.{rules}
 use lib.Seq.{length-take-le}
 use Rattle.console_grammar.specs.Held.{lists, in_use}
 use Rattle.console_reason.specs.Laws.Text.{finding-wrote}

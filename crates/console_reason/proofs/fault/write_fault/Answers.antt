@@ -1,5 +1,4 @@
 -- `console_reason::fault::write_fault` meets its contract.
-use borrow.Author.Rules.{rules}
 use Rattle.base_lists.specs.Laws.Written.{wrote_none}
 use Rattle.console_reason.proofs.fault.write_fault.Goals as goal
 

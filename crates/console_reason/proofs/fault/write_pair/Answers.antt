@@ -1,6 +1,5 @@
 -- `console_reason::fault::write_pair` meets its contract.
 use native.Mathlib.Omega.{arith}
-use borrow.Author.Rules.{rules}
 use Rattle.base_lists.specs.Laws.Written.{length-wrote, wrote_then}
 use Rattle.console_answer.specs.Laws.Lengths.{length-octal-line}
 use Rattle.console_reason.proofs.fault.write_pair.Goals as goal

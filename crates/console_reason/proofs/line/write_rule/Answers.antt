@@ -1,5 +1,4 @@
 -- `console_reason::line::write_rule` meets its contract.
-use borrow.Author.Rules.{rules}
 use Rattle.console_reason.proofs.line.write_rule.Goals as goal
 
 pub returns-in-Form : goal.returns-in-Form

@@ -1,6 +1,5 @@
 -- `console_reason::line::write_unreadable` meets its contract.
 use native.Mathlib.Omega.{arith}
-use borrow.Author.Rules.{rules}
 use Rattle.console_answer.specs.Laws.Lengths.{length-refused}
 use Rattle.console_answer.specs.Laws.Room.{room_after}
 use Rattle.console_text.specs.Names.{line_is}

@@ -1,7 +1,7 @@
 -- `console_text::pieces::decimal_digits` meets its contract.
 use native.Mathlib.Omega.{arith}
-use lib.ListN.{length, length-set}
-use Rattle.console_text.specs.Laws.Decimal.{DecimalLeft, decimal-start, decimal-put, decimal-end}
+use lib.ListN.{length-set}
+use Rattle.console_text.specs.Laws.Decimal.{decimal-start, decimal-put, decimal-end}
 use Rattle.console_text.proofs.pieces.decimal_digits.Goals as goal
 
 pub loop-at-init : goal.loop-at-init

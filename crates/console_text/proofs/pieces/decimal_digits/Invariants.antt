@@ -1,7 +1,6 @@
 -- `console_text::pieces::decimal_digits` meets its contract.
-use native.Mathlib.Omega.{arith}
-use lib.ListN.{length, length-set}
-use Rattle.console_text.specs.Laws.Decimal.{DecimalLeft, decimal-start, decimal-put, decimal-end}
+use lib.ListN.{length}
+use Rattle.console_text.specs.Laws.Decimal.{DecimalLeft}
 use Rattle.console_text.proofs.pieces.decimal_digits.Given as goal
 
 abbrev pub invariant-loop-at : goal.invariant-loop-at

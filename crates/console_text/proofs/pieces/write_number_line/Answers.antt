@@ -1,6 +1,5 @@
 -- `console_text::pieces::write_number_line` meets its contract.
 use native.Mathlib.Omega.{arith}
-use borrow.Author.Rules.{rules}
 use Rattle.base_lists.specs.Laws.Written.{length-wrote, wrote_then}
 use Rattle.console_text.specs.Laws.Decimal.{length-decimal}
 use Rattle.console_text.proofs.pieces.write_number_line.Goals as goal

@@ -1,6 +1,5 @@
 -- `console_text::pieces::write_octal_line` meets its contract.
 use native.Mathlib.Omega.{arith}
-use borrow.Author.Rules.{rules}
 use Rattle.word_octal.specs.Laws.Write.{length-octal}
 use Rattle.base_lists.specs.Laws.Written.{length-wrote, wrote_then}
 use Rattle.console_text.proofs.pieces.write_octal_line.Goals as goal

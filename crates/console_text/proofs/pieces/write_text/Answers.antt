@@ -1,8 +1,6 @@
 -- `console_text::pieces::write_text` meets its contract.
-use Prim.Native.Nat.{◌+◌, ◌-◌, ◌≤◌}
+use Prim.Native.Nat.{◌-◌}
 use native.Mathlib.Omega.{arith}
-use lib.ListN.{length, drop}
-use Rattle.base_lists.specs.Laws.Written.{Writing}
 use Rattle.console_text.specs.Laws.Bytes.{bytes-start, bytes_next, bytes-end}
 use Rattle.console_text.proofs.pieces.write_text.Goals as goal
 

@@ -1,5 +1,4 @@
 -- `console_text::pieces::write_text_line` meets its contract.
-use borrow.Author.Rules.{rules}
 use Rattle.base_lists.specs.Laws.Written.{wrote_then}
 use Rattle.console_text.proofs.pieces.write_text_line.Goals as goal
 

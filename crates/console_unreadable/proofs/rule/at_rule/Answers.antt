@@ -1,5 +1,4 @@
 -- `console_unreadable::rule::at_rule` meets its contract.
-use borrow.Author.Rules.{rules}
 use borrow.Author.Tests.{le-ltb, lt-ltb, lt-leb, le-leb}
 use Rattle.console_unreadable.proofs.rule.at_rule.Goals as goal
 

@@ -1,5 +1,4 @@
 -- `console_unreadable::rule::rule_of` meets its contract.
-use borrow.Author.Rules.{rules}
 use Rattle.console_unreadable.proofs.rule.rule_of.Goals as goal
 
 pub returns-in-At : goal.returns-in-At

@@ -1,7 +1,6 @@
 -- `console_unreadable::tracker::end_line` meets its contract.
 use mathlib.Core.Path.{sym, ◌∙◌}
 use native.Mathlib.Omega.{arith}
-use borrow.Author.Rules.{rules}
 use lib.Seq.{length-take-le}
 use Rattle.console_unreadable.specs.Laws.Tracker.{line-found, line-passed}
 use Rattle.console_unreadable.proofs.tracker.end_line.Goals as goal

@@ -1,5 +1,4 @@
 -- `console_unreadable::tracker::follow_byte` meets its contract.
-use borrow.Author.Rules.{rules}
 use Rattle.console_unreadable.specs.Laws.Tracker.{followed-line-feed, followed-byte}
 use Rattle.console_unreadable.proofs.tracker.follow_byte.Goals as goal
 

@@ -1,5 +1,4 @@
 -- `console_unreadable::tracker::found_at_end` meets its contract.
-use borrow.Author.Rules.{rules}
 use Rattle.console_unreadable.proofs.tracker.found_at_end.Goals as goal
 
 pub returns-in-Nothing : goal.returns-in-Nothing

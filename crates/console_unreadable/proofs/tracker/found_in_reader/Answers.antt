@@ -1,5 +1,4 @@
 -- `console_unreadable::tracker::found_in_reader` meets its contract.
-use borrow.Author.Rules.{rules}
 use borrow.Author.Tests.{eq-eqb, ne_eqb}
 use Rattle.console_unreadable.proofs.tracker.found_in_reader.Goals as goal
 

@@ -1,5 +1,4 @@
 -- `console_unreadable::tracker::start` meets its contract.
-use borrow.Author.Rules.{rules}
 use Rattle.console_unreadable.proofs.tracker.start.Goals as goal
 
 pub returns : goal.returns

@@ -1,11 +1,8 @@
 -- `console_unreadable::tracker::track_all` meets its contract.
-use mathlib.Core.Path.{◌≡◌, refl, ◌∙◌}
+use mathlib.Core.Path.{refl, ◌∙◌}
 use Prim.Native.Nat.{◌-◌}
 use native.Mathlib.Omega.{arith}
-use lib.ListN.{length}
-use Rattle.console_grammar.specs.Held.{lists}
-use Rattle.console_unreadable.specs.Laws.Tracker.{TrackingOn, tracking-start, tracking-ready, tracking-next, tracking-end}
-use Rattle.console_unreadable.specs.Tracker.{tracker_state}
+use Rattle.console_unreadable.specs.Laws.Tracker.{tracking-start, tracking-ready, tracking-next, tracking-end}
 use Rattle.console_unreadable.proofs.tracker.track_all.Goals as goal
 
 pub loop-at-init : goal.loop-at-init

@@ -1,5 +1,4 @@
 -- `console_unreadable::tracker::track_byte` meets its contract.
-use borrow.Author.Rules.{rules}
 use Rattle.console_unreadable.proofs.tracker.track_byte.Goals as goal
 
 pub returns-in-Nothing : goal.returns-in-Nothing

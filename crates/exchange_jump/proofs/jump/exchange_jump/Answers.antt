@@ -1,6 +1,5 @@
 -- `exchange_jump::jump::exchange_jump` meets its contract.
 use native.Mathlib.Nat.{add-sub_cancel_left}
-use borrow.Author.Rules.{rules}
 use Rattle.exchange_jump.specs.Jump.{exchanged}
 use Rattle.exchange_jump.proofs.jump.exchange_jump.Goals as goal
 

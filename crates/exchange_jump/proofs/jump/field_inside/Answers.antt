@@ -1,6 +1,5 @@
 -- `exchange_jump::jump::field_inside` meets its contract.
 use native.Mathlib.Omega.{arith}
-use borrow.Author.Rules.{rules}
 use Rattle.exchange_package.specs.Laws.Package.{field-width}
 use Rattle.base_lists.specs.Parts.{part}
 use Rattle.exchange_jump.specs.Jump.{field_inside}

@@ -2,10 +2,8 @@
 use mathlib.Core.Path.{sym, ◌∙◌}
 use Prim.Native.Nat.{◌+◌}
 use borrow.Author.Tests.{leb-true}
-use borrow.Author.Rules.{rules}
 use lib.ListN.{length}
 use Rattle.exchange_jump.specs.Jump.{package_inside, package_clean, package_verdict}
-use Rattle.base_logic.specs.Laws.Tests.{holds, fails}
 use Rattle.exchange_jump.proofs.jump.package_verdict.Goals as goal
 
 pub has_stray-requires : goal.has_stray-requires

@@ -1,5 +1,4 @@
 -- `exchange_package::package::bits18` meets its contract.
-use borrow.Author.Rules.{rules}
 use lib.Bits.{and_mask}
 use Rattle.exchange_package.proofs.package.bits18.Goals as goal
 

@@ -1,5 +1,4 @@
 -- `exchange_package::package::decode` meets its contract.
-use borrow.Author.Rules.{rules}
 use Rattle.exchange_package.specs.Package.{package_record}
 use Rattle.exchange_package.proofs.package.decode.Goals as goal
 

@@ -1,7 +1,6 @@
 -- `exchange_package::package::has_stray` meets its contract.
 use mathlib.Core.Path.{◌∙◌}
 use native.Mathlib.Nat.{add-sub_cancel_left}
-use borrow.Author.Rules.{rules}
 use Rattle.exchange_package.proofs.package.has_stray.Goals as goal
 
 pub returns : goal.returns

@@ -1,7 +1,6 @@
 -- `exchange_package::package::load` meets its contract.
 use mathlib.Core.Path.{◌∙◌}
 use native.Mathlib.Nat.{add-sub_cancel_left}
-use borrow.Author.Rules.{rules}
 use Rattle.exchange_package.proofs.package.load.Goals as goal
 
 pub returns : goal.returns

@@ -2,7 +2,6 @@
 use mathlib.Core.Path.{sym, ◌∙◌, ap}
 use mathlib.Core.Bool.{not}
 use borrow.Author.Tests.{eq-eqb, ne_eqb}
-use borrow.Author.Rules.{rules}
 use Rattle.exchange_package.specs.Package.{has_stray}
 use Rattle.exchange_package.proofs.package.package_has_stray.Goals as goal
 

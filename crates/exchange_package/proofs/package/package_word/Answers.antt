@@ -1,6 +1,5 @@
 -- `exchange_package::package::package_word` meets its contract.
 use borrow.Author.Tests.{lt-ltb, le-ltb}
-use borrow.Author.Rules.{rules}
 use lib.ListN.{get_or}
 use Rattle.central_registers.specs.Registers.{a_of, b_of}
 use Rattle.exchange_package.specs.Package.{controls, package_word}

@@ -1,6 +1,5 @@
 -- `exchange_package::package::register_in` meets its contract.
 use borrow.Author.Tests.{lt-ltb, le-ltb}
-use borrow.Author.Rules.{rules}
 use Rattle.exchange_package.specs.Package.{register_in}
 use Rattle.exchange_package.proofs.package.register_in.Goals as goal
 

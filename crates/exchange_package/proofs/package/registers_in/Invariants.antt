@@ -1,9 +1,7 @@
 -- `exchange_package::package::registers_in` meets its contract.
-use mathlib.Core.Path.{refl}
 use Prim.Native.Nat.{◌-◌}
-use native.Mathlib.Omega.{arith}
 use Rattle.exchange_package.specs.Package.{register_in}
-use Rattle.base_lists.specs.Laws.Indexed.{Tabulated, none-tabulated, one-tabulated, all-tabulated}
+use Rattle.base_lists.specs.Laws.Indexed.{Tabulated}
 use Rattle.exchange_package.proofs.package.registers_in.Given as goal
 
 abbrev pub invariant-loop-i : goal.invariant-loop-i

@@ -2,8 +2,8 @@
 use mathlib.Core.Path.{sym, ◌∙◌}
 use Prim.Native.Nat.{◌-◌}
 use native.Mathlib.Omega.{arith}
-use Rattle.exchange_package.specs.Package.{package_word, coded}
-use Rattle.base_lists.specs.Laws.Indexed.{Tabulated, none-tabulated, one-tabulated, all-tabulated}
+use Rattle.exchange_package.specs.Package.{coded}
+use Rattle.base_lists.specs.Laws.Indexed.{none-tabulated, one-tabulated, all-tabulated}
 use Rattle.exchange_package.proofs.package.store.Goals as goal
 
 pub loop-n-init : goal.loop-n-init

@@ -1,9 +1,7 @@
 -- `exchange_package::package::store` meets its contract.
-use mathlib.Core.Path.{sym, ◌∙◌}
 use Prim.Native.Nat.{◌-◌}
-use native.Mathlib.Omega.{arith}
-use Rattle.exchange_package.specs.Package.{package_word, coded}
-use Rattle.base_lists.specs.Laws.Indexed.{Tabulated, none-tabulated, one-tabulated, all-tabulated}
+use Rattle.exchange_package.specs.Package.{package_word}
+use Rattle.base_lists.specs.Laws.Indexed.{Tabulated}
 use Rattle.exchange_package.proofs.package.store.Given as goal
 
 abbrev pub invariant-loop-n : goal.invariant-loop-n

@@ -1,11 +1,10 @@
 -- `exchange_package::package::words_have_no_stray` meets its contract.
 use Prim.Native.Nat.{◌≤◌, ◌<◌, ◌-◌, ◌^◌}
 use native.Mathlib.Omega.{arith}
-use borrow.Author.Rules.{rules}
 use borrow.Author.Tests.{lt-ltb, le-ltb}
 use lib.ListN.{get_or}
 use Rattle.exchange_package.specs.Package.{bits_in_use, word_has_no_stray}
-use Rattle.base_lists.specs.Laws.Indexed.{Passed, none_yet, one_more, all-passed, one-fails}
+use Rattle.base_lists.specs.Laws.Indexed.{none_yet, one_more, all-passed, one-fails}
 use Rattle.exchange_package.proofs.package.words_have_no_stray.Goals as goal
 
 pub loop-n-init : goal.loop-n-init

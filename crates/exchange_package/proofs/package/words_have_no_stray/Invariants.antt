@@ -1,11 +1,7 @@
 -- `exchange_package::package::words_have_no_stray` meets its contract.
-use Prim.Native.Nat.{◌≤◌, ◌<◌, ◌-◌, ◌^◌}
-use native.Mathlib.Omega.{arith}
-use borrow.Author.Rules.{rules}
-use borrow.Author.Tests.{lt-ltb, le-ltb}
-use lib.ListN.{get_or}
-use Rattle.exchange_package.specs.Package.{bits_in_use, word_has_no_stray}
-use Rattle.base_lists.specs.Laws.Indexed.{Passed, none_yet, one_more, all-passed, one-fails}
+use Prim.Native.Nat.{◌-◌}
+use Rattle.exchange_package.specs.Package.{word_has_no_stray}
+use Rattle.base_lists.specs.Laws.Indexed.{Passed}
 use Rattle.exchange_package.proofs.package.words_have_no_stray.Given as goal
 
 abbrev pub invariant-loop-n : goal.invariant-loop-n

@@ -1,6 +1,5 @@
 -- `floating_normalize::normalize::normal_of` meets its contract.
 use native.Mathlib.Omega.{arith}
-use borrow.Author.Rules.{rules}
 use Rattle.floating_normalize.specs.Laws.Places.{places-le}
 use Rattle.floating_normalize.proofs.Steps.{shifted-lt, normal-is}
 use Rattle.floating_normalize.proofs.normalize.normal_of.Goals as goal

@@ -1,6 +1,5 @@
 -- `floating_product::halves::doubled` meets its contract.
 use native.Mathlib.Omega.{arith}
-use borrow.Author.Rules.{rules}
 use Rattle.floating_word.specs.Laws.Halves.{halves_are}
 use Rattle.floating_product.proofs.halves.doubled.Goals as goal
 

@@ -1,7 +1,6 @@
 -- `floating_product::halves::exact_product` meets its contract.
 use Prim.Native.Nat.{◌^◌}
 use native.Mathlib.Omega.{arith}
-use borrow.Author.Rules.{rules}
 use Rattle.floating_word.specs.Laws.Halves.{halves_are}
 use Rattle.floating_product.specs.Laws.Columns.{by-columns, low-digits}
 use Rattle.floating_product.proofs.Digits.{digits}

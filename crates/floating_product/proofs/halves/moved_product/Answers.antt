@@ -1,6 +1,5 @@
 -- `floating_product::halves::moved_product` meets its contract.
 use mathlib.Core.Path.{sym, ◌∙◌}
-use borrow.Author.Rules.{rules}
 use Rattle.floating_product.proofs.Steps.{high_is, moved-fits, stays, moves}
 use Rattle.floating_product.proofs.halves.moved_product.Goals as goal
 

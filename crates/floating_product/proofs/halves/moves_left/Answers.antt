@@ -2,7 +2,6 @@
 use mathlib.Core.Path.{sym, ◌∙◌}
 use Prim.Native.Nat.{◌*◌, ◌^◌}
 use native.Mathlib.Omega.{arith}
-use borrow.Author.Rules.{rules}
 use Rattle.floating_word.specs.Laws.Halves.{same-order}
 use Rattle.floating_product.proofs.halves.moves_left.Goals as goal
 

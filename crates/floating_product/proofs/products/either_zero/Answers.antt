@@ -1,6 +1,5 @@
 -- `floating_product::products::either_zero` meets its contract.
 use mathlib.Core.Path.{sym, ◌∙◌}
-use borrow.Author.Rules.{rules}
 use Rattle.floating_product.proofs.products.either_zero.Goals as goal
 
 pub returns-then-is_zero_operand : goal.returns-then-is_zero_operand

@@ -1,7 +1,6 @@
 -- `floating_product::products::floating_product` meets its contract.
 use mathlib.Core.Path.{sym, subst}
 use Prim.Native.Nat.{ℕ, ◌^◌, ◌<◌}
-use borrow.Author.Rules.{rules}
 use Rattle.floating_product.specs.Products.{floating_product}
 use Rattle.floating_product.specs.Laws.Products.{product-word-lt}
 use Rattle.floating_product.proofs.products.floating_product.Goals as goal

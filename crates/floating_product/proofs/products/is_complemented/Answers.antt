@@ -1,6 +1,5 @@
 -- `floating_product::products::is_complemented` meets its contract.
 use mathlib.Core.Path.{sym, ◌∙◌}
-use borrow.Author.Rules.{rules}
 use Rattle.floating_product.proofs.products.is_complemented.Goals as goal
 
 pub returns-then-is_indefinite : goal.returns-then-is_indefinite

@@ -1,6 +1,5 @@
 -- `floating_product::products::is_zero_operand` meets its contract.
 use mathlib.Core.Path.{sym, ◌∙◌}
-use borrow.Author.Rules.{rules}
 use Rattle.floating_product.proofs.products.is_zero_operand.Goals as goal
 
 pub returns-then-is_special : goal.returns-then-is_special

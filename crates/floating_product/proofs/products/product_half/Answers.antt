@@ -2,7 +2,6 @@
 use mathlib.Core.Bool.{true, false}
 use mathlib.Core.Path.{◌∙◌}
 use native.Mathlib.Omega.{arith}
-use borrow.Author.Rules.{rules}
 use Rattle.floating_product.proofs.Steps.{product-cut, half_is}
 use Rattle.floating_product.proofs.products.product_half.Goals as goal
 

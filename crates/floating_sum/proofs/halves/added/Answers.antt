@@ -1,7 +1,6 @@
 -- `floating_sum::halves::added` meets its contract.
 use Prim.Native.Nat.{◌+◌}
 use native.Mathlib.Omega.{arith}
-use borrow.Author.Rules.{rules}
 use lib.Bits.{and_mask, mask_lt}
 use Rattle.floating_sum.specs.Laws.Halves.{halves_are}
 use Rattle.floating_sum.proofs.halves.added.Goals as goal

@@ -1,6 +1,5 @@
 -- `floating_sum::halves::halved` meets its contract.
 use native.Mathlib.Omega.{arith}
-use borrow.Author.Rules.{rules}
 use lib.Bits.{and_mask}
 use Rattle.floating_sum.specs.Laws.Halves.{halves_are}
 use Rattle.floating_sum.proofs.halves.halved.Goals as goal

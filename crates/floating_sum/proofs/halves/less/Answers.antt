@@ -1,6 +1,5 @@
 -- `floating_sum::halves::less` meets its contract.
 use native.Mathlib.Omega.{arith}
-use borrow.Author.Rules.{rules}
 use Rattle.floating_sum.specs.Laws.Halves.{halves_are}
 use Rattle.floating_sum.proofs.halves.less.Goals as goal
 

@@ -1,7 +1,6 @@
 -- `floating_sum::halves::placed` meets its contract.
 use Prim.Native.Nat.{◌-◌}
 use native.Mathlib.Omega.{arith}
-use borrow.Author.Rules.{rules}
 use lib.Pow.{shr_le}
 use Rattle.floating_sum.specs.Laws.Halves.{halves_are}
 use Rattle.floating_sum.specs.Laws.Placed.{placed-far, placed-out}

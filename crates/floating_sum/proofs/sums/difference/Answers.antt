@@ -2,7 +2,6 @@
 use mathlib.Core.Path.{sym, ◌∙◌}
 use native.Mathlib.Nat.{le_of_lt}
 use borrow.Author.Tests.{ltb-true, ltb-false}
-use borrow.Author.Rules.{rules}
 use Rattle.floating_sum.specs.Halves.{whole}
 use Rattle.floating_sum.specs.Laws.Sums.{added-above, added-below}
 use Rattle.floating_sum.proofs.Steps.{signed_is}

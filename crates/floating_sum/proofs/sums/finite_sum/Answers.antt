@@ -1,6 +1,5 @@
 -- `floating_sum::sums::finite_sum` meets its contract.
 use native.Mathlib.Omega.{arith}
-use borrow.Author.Rules.{rules}
 use Rattle.floating_sum.proofs.Steps.{placed-cut, sum-cut, sum_is}
 use Rattle.floating_sum.proofs.sums.finite_sum.Goals as goal
 

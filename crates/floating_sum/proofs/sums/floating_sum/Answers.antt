@@ -1,5 +1,4 @@
 -- `floating_sum::sums::floating_sum` meets its contract.
-use borrow.Author.Rules.{rules}
 use Rattle.floating_sum.specs.Sums.{floating_sum}
 use Rattle.floating_sum.proofs.sums.floating_sum.Goals as goal
 

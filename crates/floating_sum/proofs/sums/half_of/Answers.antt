@@ -1,7 +1,6 @@
 -- `floating_sum::sums::half_of` meets its contract.
 use mathlib.Core.Path.{ap, ◌∙◌}
 use native.Mathlib.Omega.{arith}
-use borrow.Author.Rules.{rules}
 use Rattle.floating_sum.specs.Sums.{half_of}
 use Rattle.floating_word.specs.Number.{word_of}
 use Rattle.floating_sum.proofs.sums.half_of.Goals as goal

@@ -1,5 +1,4 @@
 -- `floating_sum::sums::moved` meets its contract.
-use borrow.Author.Rules.{rules}
 use Rattle.floating_sum.proofs.Steps.{kept-is, moved-is}
 use Rattle.floating_sum.proofs.sums.moved.Goals as goal
 

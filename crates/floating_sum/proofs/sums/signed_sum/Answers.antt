@@ -1,7 +1,6 @@
 -- `floating_sum::sums::signed_sum` meets its contract.
 use mathlib.Core.Bool.{true, false}
 use mathlib.Core.Path.{ap, ◌∙◌}
-use borrow.Author.Rules.{rules}
 use Rattle.floating_sum.specs.Halves.{whole, cut_sum}
 use Rattle.floating_sum.specs.Sums.{coefficient}
 use Rattle.floating_sum.specs.Laws.Sums.{added-alike, added-exchanged}

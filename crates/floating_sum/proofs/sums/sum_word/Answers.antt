@@ -1,6 +1,5 @@
 -- `floating_sum::sums::sum_word` meets its contract.
 use mathlib.Core.Path.{sym, subst, ◌∙◌}
-use borrow.Author.Rules.{rules}
 use Rattle.floating_word.specs.Widths.{NumberFits}
 use Rattle.floating_word.specs.Laws.Number.{number_fits}
 use Rattle.floating_sum.specs.Sums.{sum_word}

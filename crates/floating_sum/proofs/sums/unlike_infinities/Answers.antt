@@ -1,6 +1,5 @@
 -- `floating_sum::sums::unlike_infinities` meets its contract.
 use mathlib.Core.Path.{sym, ◌∙◌}
-use borrow.Author.Rules.{rules}
 use Rattle.floating_sum.proofs.sums.unlike_infinities.Goals as goal
 
 pub returns-then-is_infinite-2 : goal.returns-then-is_infinite-2

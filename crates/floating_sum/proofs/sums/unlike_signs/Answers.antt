@@ -1,6 +1,5 @@
 -- `floating_sum::sums::unlike_signs` meets its contract.
 use mathlib.Core.Path.{sym, ◌∙◌}
-use borrow.Author.Rules.{rules}
 use Rattle.floating_sum.proofs.sums.unlike_signs.Goals as goal
 
 pub returns-then-is_negative60 : goal.returns-then-is_negative60

@@ -1,7 +1,6 @@
 -- `floating_word::number::biased_from` meets its contract.
 use native.Mathlib.Omega.{arith}
 use borrow.Author.Tests.{lt-ltb, le-ltb}
-use borrow.Author.Rules.{rules}
 use Rattle.floating_word.specs.Number.{biased_from}
 use Rattle.floating_word.proofs.number.biased_from.Goals as goal
 

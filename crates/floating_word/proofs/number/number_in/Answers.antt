@@ -1,5 +1,4 @@
 -- `floating_word::number::number_in` meets its contract.
-use borrow.Author.Rules.{rules}
 use lib.Bits.{and_mask}
 use Rattle.floating_word.specs.Number.{number_in}
 use Rattle.floating_word.proofs.number.number_in.Goals as goal

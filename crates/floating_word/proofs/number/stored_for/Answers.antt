@@ -1,7 +1,6 @@
 -- `floating_word::number::stored_for` meets its contract.
 use native.Mathlib.Omega.{arith}
 use borrow.Author.Tests.{lt-ltb, le-ltb}
-use borrow.Author.Rules.{rules}
 use Rattle.floating_word.specs.Number.{stored_for}
 use Rattle.floating_word.proofs.number.stored_for.Goals as goal
 

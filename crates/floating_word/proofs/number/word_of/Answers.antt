@@ -1,7 +1,6 @@
 -- `floating_word::number::word_of` meets its contract.
 use mathlib.Core.Path.{◌∙◌}
 use borrow.Author.Tests.{lt-ltb, le-ltb}
-use borrow.Author.Rules.{rules}
 use Rattle.floating_word.specs.Number.{word_of}
 use Rattle.floating_word.proofs.Machine.{above-size, above-size-lt}
 use Rattle.floating_word.proofs.number.word_of.Goals as goal

@@ -1,6 +1,5 @@
 -- `floating_word::special::either_infinite` meets its contract.
 use mathlib.Core.Path.{sym, ◌∙◌}
-use borrow.Author.Rules.{rules}
 use Rattle.floating_word.proofs.special.either_infinite.Goals as goal
 
 pub returns-then-is_infinite : goal.returns-then-is_infinite

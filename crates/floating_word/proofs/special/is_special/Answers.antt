@@ -1,6 +1,5 @@
 -- `floating_word::special::is_special` meets its contract.
 use mathlib.Core.Path.{sym, ◌∙◌}
-use borrow.Author.Rules.{rules}
 use Rattle.floating_word.proofs.special.is_special.Goals as goal
 
 pub returns-then-is_infinite : goal.returns-then-is_infinite

@@ -1,5 +1,4 @@
 -- `floating_word::special::signed` meets its contract.
-use borrow.Author.Rules.{rules}
 use Rattle.floating_word.specs.Special.{signed}
 use Rattle.floating_word.proofs.special.signed.Goals as goal
 

@@ -1,5 +1,4 @@
 -- `host_answer::results::keep_taken` meets its contract.
-use borrow.Author.Rules.{rules}
 use Rattle.host_answer.specs.Laws.Results.{taken_is, taken_refused}
 use Rattle.host_answer.proofs.results.keep_taken.Goals as goal
 

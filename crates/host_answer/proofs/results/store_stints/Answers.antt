@@ -2,11 +2,9 @@
 use mathlib.Core.Path.{refl}
 use Prim.Native.Nat.{◌-◌}
 use native.Mathlib.Omega.{arith}
-use borrow.Author.Rules.{rules}
 use lib.ListN.{length-set}
-use Rattle.base_lists.specs.Laws.Rows.{RowsStored, no-row-stored, length-stored, one-row-stored, all-rows-stored}
+use Rattle.base_lists.specs.Laws.Rows.{no-row-stored, length-stored, one-row-stored, all-rows-stored}
 use Rattle.host_answer.specs.Laws.Results.{pair-stored}
-use Rattle.host_answer.specs.Results.{stint_row}
 use Rattle.host_answer.proofs.results.store_stints.Goals as goal
 
 pub loop-i-init : goal.loop-i-init

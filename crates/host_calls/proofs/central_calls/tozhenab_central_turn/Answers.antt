@@ -1,5 +1,4 @@
 -- `host_calls::central_calls::tozhenab_central_turn` meets its contract.
-use borrow.Author.Rules.{rules}
 use Rattle.host_calls.specs.Laws.Central.{central-turn-stores, central-turn-is}
 use Rattle.host_calls.proofs.central_calls.tozhenab_central_turn.Goals as goal
 

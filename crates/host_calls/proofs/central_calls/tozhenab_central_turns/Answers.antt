@@ -1,5 +1,4 @@
 -- `host_calls::central_calls::tozhenab_central_turns` meets its contract.
-use borrow.Author.Rules.{rules}
 use Rattle.host_calls.specs.Laws.Central.{turns-store, turns-are, turns-short}
 use Rattle.host_calls.proofs.central_calls.tozhenab_central_turns.Goals as goal
 

@@ -1,5 +1,4 @@
 -- `host_calls::central_calls::tozhenab_exchange` meets its contract.
-use borrow.Author.Rules.{rules}
 use Rattle.host_calls.specs.Laws.Central.{exchange-stores, exchange-is}
 use Rattle.host_calls.proofs.central_calls.tozhenab_exchange.Goals as goal
 

@@ -1,5 +1,4 @@
 -- `host_calls::central_calls::tozhenab_run_program` meets its contract.
-use borrow.Author.Rules.{rules}
 use Rattle.host_calls.specs.Laws.Central.{program-is, program-short}
 use Rattle.host_calls.proofs.central_calls.tozhenab_run_program.Goals as goal
 

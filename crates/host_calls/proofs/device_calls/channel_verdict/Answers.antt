@@ -1,7 +1,5 @@
 -- `host_calls::device_calls::channel_verdict` meets its contract.
 use Rattle.std.proofs.Common.{sym, ◌∙◌}
-use borrow.Author.Rules.{rules}
-use Rattle.base_logic.specs.Laws.Tests.{holds, fails}
 use Rattle.host_calls.proofs.device_calls.channel_verdict.Goals as goal
 
 pub returns-then-not-channel_fits : goal.returns-then-not-channel_fits

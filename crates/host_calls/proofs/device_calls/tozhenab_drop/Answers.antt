@@ -1,5 +1,4 @@
 -- `host_calls::device_calls::tozhenab_drop` meets its contract.
-use borrow.Author.Rules.{rules}
 use Rattle.host_calls.specs.Laws.Device.{drop-stores, drop-is}
 use Rattle.host_calls.proofs.device_calls.tozhenab_drop.Goals as goal
 

@@ -1,5 +1,4 @@
 -- `host_calls::device_calls::tozhenab_put` meets its contract.
-use borrow.Author.Rules.{rules}
 use Rattle.host_calls.specs.Laws.Device.{put-stores, put_is}
 use Rattle.host_calls.proofs.device_calls.tozhenab_put.Goals as goal
 

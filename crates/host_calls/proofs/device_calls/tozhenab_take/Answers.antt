@@ -1,5 +1,4 @@
 -- `host_calls::device_calls::tozhenab_take` meets its contract.
-use borrow.Author.Rules.{rules}
 use Rattle.host_calls.specs.Laws.Device.{take-stores, take-is, taken-short}
 use Rattle.host_calls.proofs.device_calls.tozhenab_take.Goals as goal
 

@@ -1,5 +1,4 @@
 -- `host_calls::machine_calls::tozhenab_peripheral_turn` meets its contract.
-use borrow.Author.Rules.{rules}
 use Rattle.host_calls.specs.Laws.Machine.{peripheral-turn-stores, peripheral-turn-is}
 use Rattle.host_calls.proofs.machine_calls.tozhenab_peripheral_turn.Goals as goal
 

@@ -1,5 +1,4 @@
 -- `host_calls::machine_calls::tozhenab_run` meets its contract.
-use borrow.Author.Rules.{rules}
 use Rattle.host_calls.specs.Laws.Machine.{run-stores, run_is, run_short}
 use Rattle.host_calls.proofs.machine_calls.tozhenab_run.Goals as goal
 

@@ -1,6 +1,5 @@
 -- `host_calls::schedule_call::tozhenab_schedule` meets its contract.
 use native.Mathlib.Omega.{arith}
-use borrow.Author.Rules.{rules}
 use Rattle.host_calls.specs.Laws.Schedule.{schedule-is, schedule-short}
 use Rattle.host_calls.proofs.schedule_call.tozhenab_schedule.Goals as goal
 

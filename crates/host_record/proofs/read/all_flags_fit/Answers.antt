@@ -2,8 +2,7 @@
 use Rattle.std.proofs.Common.{sym, ◌∙◌}
 use Prim.Native.Nat.{◌-◌}
 use native.Mathlib.Omega.{arith}
-use Rattle.base_logic.specs.Laws.Tests.{holds, fails}
-use Rattle.base_lists.specs.Laws.Indexed.{Passed, none_yet, one_more, all-passed, one-fails}
+use Rattle.base_lists.specs.Laws.Indexed.{none_yet, one_more, all-passed, one-fails}
 use Rattle.host_record.specs.Lent.{flags_fit_in_machine, all_flags_fit}
 use Rattle.host_record.proofs.read.all_flags_fit.Goals as goal
 

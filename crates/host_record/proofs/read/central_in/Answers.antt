@@ -1,5 +1,4 @@
 -- `host_record::read::central_in` meets its contract.
-use borrow.Author.Rules.{rules}
 use Rattle.host_record.specs.Layout.{central_in}
 use Rattle.host_record.proofs.read.central_in.Goals as goal
 

@@ -1,6 +1,5 @@
 -- `host_record::read::central_lent` meets its contract.
 use borrow.Author.Tests.{eq-eqb, ne_eqb}
-use borrow.Author.Rules.{rules}
 use lib.ListN.{length}
 use Rattle.host_record.specs.Lent.{central_lent}
 use Rattle.host_record.proofs.read.central_lent.Goals as goal

@@ -1,9 +1,7 @@
 -- `host_record::read::channel_lent` meets its contract.
 use Rattle.std.proofs.Common.{sym, ◌∙◌}
 use borrow.Author.Tests.{eq-eqb, ne_eqb}
-use borrow.Author.Rules.{rules}
 use lib.ListN.{length}
-use Rattle.base_logic.specs.Laws.Tests.{holds, fails}
 use Rattle.host_record.specs.Lent.{channel_lent}
 use Rattle.host_record.proofs.read.channel_lent.Goals as goal
 

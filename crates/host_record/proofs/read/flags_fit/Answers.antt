@@ -1,7 +1,6 @@
 -- `host_record::read::flags_fit` meets its contract.
 use Prim.Native.Nat.{◌+◌}
 use borrow.Author.Tests.{lt-leb, le-leb}
-use borrow.Author.Rules.{rules}
 use lib.ListN.{get_or}
 use Rattle.host_record.specs.Lent.{flags_fit}
 use Rattle.host_record.proofs.read.flags_fit.Goals as goal

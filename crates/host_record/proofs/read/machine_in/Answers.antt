@@ -1,5 +1,4 @@
 -- `host_record::read::machine_in` meets its contract.
-use borrow.Author.Rules.{rules}
 use Rattle.host_record.specs.Layout.{machine_in}
 use Rattle.host_record.proofs.read.machine_in.Goals as goal
 

@@ -2,8 +2,7 @@
 use mathlib.Core.Path.{refl}
 use Prim.Native.Nat.{◌-◌}
 use native.Mathlib.Omega.{arith}
-use Rattle.host_record.specs.Layout.{processor_in_machine}
-use Rattle.base_lists.specs.Laws.Indexed.{Tabulated, none-tabulated, one-tabulated, all-tabulated}
+use Rattle.base_lists.specs.Laws.Indexed.{none-tabulated, one-tabulated, all-tabulated}
 use Rattle.host_record.proofs.read.processors_in.Goals as goal
 
 pub loop-i-init : goal.loop-i-init

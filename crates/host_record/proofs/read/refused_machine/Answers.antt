@@ -1,5 +1,4 @@
 -- `host_record::read::refused_machine` meets its contract.
-use borrow.Author.Rules.{rules}
 use Rattle.host_record.specs.Lent.{refused_machine}
 use Rattle.host_record.proofs.read.refused_machine.Goals as goal
 

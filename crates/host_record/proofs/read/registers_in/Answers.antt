@@ -2,8 +2,7 @@
 use mathlib.Core.Path.{refl}
 use Prim.Native.Nat.{◌-◌}
 use native.Mathlib.Omega.{arith}
-use Rattle.host_record.specs.Layout.{register_in_numbers}
-use Rattle.base_lists.specs.Laws.Indexed.{Tabulated, none-tabulated, one-tabulated, all-tabulated}
+use Rattle.base_lists.specs.Laws.Indexed.{none-tabulated, one-tabulated, all-tabulated}
 use Rattle.host_record.proofs.read.registers_in.Goals as goal
 
 pub loop-i-init : goal.loop-i-init

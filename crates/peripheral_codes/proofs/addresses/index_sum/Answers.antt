@@ -1,6 +1,5 @@
 -- `peripheral_codes::addresses::index_sum` meets its contract.
 use native.Mathlib.Omega.{arith}
-use borrow.Author.Rules.{rules}
 use Rattle.peripheral_codes.specs.Laws.IndexSum.{index-plain, index-carried}
 use Rattle.peripheral_codes.proofs.addresses.index_sum.Goals as goal
 

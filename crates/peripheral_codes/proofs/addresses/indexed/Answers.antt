@@ -1,6 +1,5 @@
 -- `peripheral_codes::addresses::indexed` meets its contract.
 use borrow.Author.Tests.{eq-eqb, ne_eqb}
-use borrow.Author.Rules.{rules}
 use Rattle.peripheral_codes.specs.Addresses.{indexed}
 use Rattle.peripheral_codes.specs.Laws.IndexSum.{index-lt}
 use Rattle.peripheral_codes.proofs.addresses.indexed.Goals as goal

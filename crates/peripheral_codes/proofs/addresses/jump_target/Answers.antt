@@ -1,6 +1,5 @@
 -- `peripheral_codes::addresses::jump_target` meets its contract.
 use borrow.Author.Tests.{lt-ltb, le-ltb}
-use borrow.Author.Rules.{rules}
 use Rattle.peripheral_codes.specs.Addresses.{jump_target}
 use Rattle.peripheral_codes.proofs.addresses.jump_target.Goals as goal
 

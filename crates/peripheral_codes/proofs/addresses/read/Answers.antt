@@ -1,7 +1,6 @@
 -- `peripheral_codes::addresses::read` meets its contract.
 use mathlib.Core.Path.{refl}
 use native.Mathlib.Omega.{arith}
-use borrow.Author.Rules.{rules}
 use Rattle.peripheral_codes.proofs.addresses.read.Goals as goal
 
 pub overflow_cast-result : goal.overflow_cast-result

@@ -1,5 +1,4 @@
 -- `peripheral_codes::constants::long_of` meets its contract.
-use borrow.Author.Rules.{rules}
 use Rattle.peripheral_codes.specs.Laws.Addresses.{constant-lt}
 use Rattle.peripheral_codes.proofs.constants.long_of.Goals as goal
 

@@ -1,8 +1,6 @@
 -- `peripheral_codes::constants::long_value` meets its contract.
 use native.Mathlib.Omega.{arith}
 use Rattle.std.specs.Prelude.{◌≡◌}
-use borrow.Author.Rules.{rules}
-use Rattle.base_logic.specs.Laws.Match.{last_arm}
 use Rattle.peripheral_codes.specs.Constants.{long_value}
 use Rattle.peripheral_codes.proofs.constants.long_value.Goals as goal
 

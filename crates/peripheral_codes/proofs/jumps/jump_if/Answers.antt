@@ -1,5 +1,4 @@
 -- `peripheral_codes::jumps::jump_if` meets its contract.
-use borrow.Author.Rules.{rules}
 use Rattle.peripheral_codes.proofs.jumps.jump_if.Goals as goal
 
 pub returns-then-taken : goal.returns-then-taken

@@ -1,5 +1,4 @@
 -- `peripheral_codes::jumps::return_jump` meets its contract.
-use borrow.Author.Rules.{rules}
 use Rattle.peripheral_codes.proofs.jumps.return_jump.Goals as goal
 
 pub returns : goal.returns

@@ -1,8 +1,6 @@
 -- `peripheral_codes::memory::operation_of` meets its contract.
 use native.Mathlib.Omega.{arith}
 use Rattle.std.specs.Prelude.{◌≡◌}
-use borrow.Author.Rules.{rules}
-use Rattle.base_logic.specs.Laws.Match.{last_arm}
 use Rattle.peripheral_codes.specs.Memory.{operation_of}
 use Rattle.peripheral_codes.proofs.memory.operation_of.Goals as goal
 

@@ -2,9 +2,7 @@
 use mathlib.Core.Path.{sym, ◌∙◌}
 use Prim.Native.Nat.{◌+◌}
 use borrow.Author.Tests.{leb-true}
-use borrow.Author.Rules.{rules}
 use lib.ListN.{length}
-use Rattle.base_logic.specs.Laws.Tests.{holds, fails}
 use Rattle.exchange_jump.specs.Jump.{package_inside, package_clean}
 use Rattle.peripheral_io.specs.CentralSide.{exchange_of}
 use Rattle.peripheral_io.proofs.central_side.exchange_of.Goals as goal

@@ -1,5 +1,4 @@
 -- `peripheral_io::central_side::joined` meets its contract.
-use borrow.Author.Rules.{rules}
 use Rattle.peripheral_io.specs.CentralSide.{joined}
 use Rattle.peripheral_io.proofs.central_side.joined.Goals as goal
 

@@ -1,6 +1,5 @@
 -- `peripheral_io::central_side::write_central` meets its contract.
 use borrow.Author.Tests.{lt-ltb, le-ltb}
-use borrow.Author.Rules.{rules}
 use Rattle.peripheral_io.specs.CentralSide.{write_central}
 use Rattle.peripheral_io.proofs.central_side.write_central.Goals as goal
 

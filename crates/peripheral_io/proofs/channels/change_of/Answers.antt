@@ -1,7 +1,6 @@
 -- `peripheral_io::channels::change_of` meets its contract.
 use mathlib.Core.Path.{◌≡◌}
 use native.Mathlib.Omega.{arith}
-use borrow.Author.Rules.{rules}
 use Rattle.peripheral_io.specs.Channels.{change_of}
 use Rattle.peripheral_io.proofs.channels.change_of.Goals as goal
 

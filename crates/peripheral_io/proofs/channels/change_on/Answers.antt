@@ -1,6 +1,5 @@
 -- `peripheral_io::channels::change_on` meets its contract.
 use borrow.Author.Tests.{lt-ltb, le-ltb}
-use borrow.Author.Rules.{rules}
 use Rattle.peripheral_io.specs.Channels.{change_on}
 use Rattle.peripheral_io.proofs.channels.change_on.Goals as goal
 

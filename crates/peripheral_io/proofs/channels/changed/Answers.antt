@@ -1,5 +1,4 @@
 -- `peripheral_io::channels::changed` meets its contract.
-use borrow.Author.Rules.{rules}
 use Rattle.peripheral_io.proofs.channels.changed.Goals as goal
 
 pub returns-in-To : goal.returns-in-To

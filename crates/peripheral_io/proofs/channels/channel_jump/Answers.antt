@@ -1,6 +1,5 @@
 -- `peripheral_io::channels::channel_jump` meets its contract.
 use borrow.Author.Tests.{lt-ltb, le-ltb}
-use borrow.Author.Rules.{rules}
 use Rattle.peripheral_io.specs.Channels.{channel_jump}
 use Rattle.peripheral_io.proofs.channels.channel_jump.Goals as goal
 

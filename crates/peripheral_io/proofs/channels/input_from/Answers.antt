@@ -1,6 +1,5 @@
 -- `peripheral_io::channels::input_from` meets its contract.
 use borrow.Author.Tests.{lt-ltb, le-ltb, eq-eqb, ne_eqb}
-use borrow.Author.Rules.{rules}
 use Rattle.peripheral_io.specs.Channels.{input_from}
 use Rattle.peripheral_io.proofs.channels.input_from.Goals as goal
 

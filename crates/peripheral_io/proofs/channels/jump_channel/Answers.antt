@@ -1,6 +1,5 @@
 -- `peripheral_io::channels::jump_channel` meets its contract.
 use borrow.Author.Tests.{eq-eqb, ne_eqb}
-use borrow.Author.Rules.{rules}
 use Rattle.peripheral_io.specs.Channels.{jump_channel}
 use Rattle.peripheral_io.proofs.channels.jump_channel.Goals as goal
 

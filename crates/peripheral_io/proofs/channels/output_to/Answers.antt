@@ -1,6 +1,5 @@
 -- `peripheral_io::channels::output_to` meets its contract.
 use borrow.Author.Tests.{lt-ltb, le-ltb}
-use borrow.Author.Rules.{rules}
 use Rattle.peripheral_io.specs.Channels.{output_to}
 use Rattle.peripheral_io.proofs.channels.output_to.Goals as goal
 

@@ -1,5 +1,4 @@
 -- `peripheral_machine::apply::exchange_at` meets its contract.
-use borrow.Author.Rules.{rules}
 use Rattle.peripheral_machine.specs.Laws.Apply.{machine-exchange-is}
 use Rattle.peripheral_machine.proofs.apply.exchange_at.Goals as goal
 

@@ -1,6 +1,5 @@
 -- `peripheral_machine::apply::set_parts` meets its contract.
 use native.Mathlib.Omega.{arith}
-use borrow.Author.Rules.{rules}
 use lib.ListN.{length-set}
 use Rattle.peripheral_machine.specs.Apply.{with_parts}
 use Rattle.peripheral_machine.proofs.apply.set_parts.Goals as goal

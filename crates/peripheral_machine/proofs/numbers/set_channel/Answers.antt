@@ -1,5 +1,4 @@
 -- `peripheral_machine::numbers::set_channel` meets its contract.
-use borrow.Author.Rules.{rules}
 use Rattle.peripheral_machine.proofs.numbers.set_channel.Goals as goal
 
 pub returns : goal.returns

@@ -1,5 +1,4 @@
 -- `peripheral_machine::numbers::stop` meets its contract.
-use borrow.Author.Rules.{rules}
 use Rattle.peripheral_machine.proofs.numbers.stop.Goals as goal
 
 pub returns : goal.returns

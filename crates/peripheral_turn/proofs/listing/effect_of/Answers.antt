@@ -1,5 +1,4 @@
 -- `peripheral_turn::listing::effect_of` meets its contract.
-use borrow.Author.Rules.{rules}
 use Rattle.peripheral_turn.proofs.listing.effect_of.Goals as goal
 
 pub returns : goal.returns

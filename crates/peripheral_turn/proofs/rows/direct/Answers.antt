@@ -1,5 +1,4 @@
 -- `peripheral_turn::rows::direct` meets its contract.
-use borrow.Author.Rules.{rules}
 use Rattle.peripheral_turn.proofs.rows.direct.Goals as goal
 
 pub returns : goal.returns

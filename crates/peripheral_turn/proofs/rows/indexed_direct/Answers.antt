@@ -1,5 +1,4 @@
 -- `peripheral_turn::rows::indexed_direct` meets its contract.
-use borrow.Author.Rules.{rules}
 use Rattle.peripheral_turn.proofs.rows.indexed_direct.Goals as goal
 
 pub returns : goal.returns

@@ -2,7 +2,6 @@
 use mathlib.Core.Path.{◌≡◌}
 use native.Mathlib.Omega.{arith}
 use borrow.Author.Tests.{lt-ltb}
-use borrow.Author.Rules.{rules}
 use Rattle.peripheral_turn.specs.Turn.{second_row_of}
 use Rattle.peripheral_turn.proofs.rows.second_row.Goals as goal
 

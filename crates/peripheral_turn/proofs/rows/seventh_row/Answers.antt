@@ -1,7 +1,6 @@
 -- `peripheral_turn::rows::seventh_row` meets its contract.
 use Prim.Native.Nat.{◌≤◌}
 use native.Mathlib.Omega.{arith}
-use borrow.Author.Rules.{rules}
 use lib.ListN.{get_or-eq_default}
 use Rattle.peripheral_turn.specs.Turn.{seventh_row_of, channel_words}
 use Rattle.peripheral_turn.proofs.rows.seventh_row.Goals as goal

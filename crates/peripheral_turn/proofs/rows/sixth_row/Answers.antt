@@ -1,7 +1,6 @@
 -- `peripheral_turn::rows::sixth_row` meets its contract.
 use Prim.Native.Nat.{◌≤◌}
 use native.Mathlib.Omega.{arith}
-use borrow.Author.Rules.{rules}
 use lib.ListN.{get_or-eq_default}
 use Rattle.peripheral_turn.specs.Turn.{sixth_row_of, central_words}
 use Rattle.peripheral_turn.proofs.rows.sixth_row.Goals as goal

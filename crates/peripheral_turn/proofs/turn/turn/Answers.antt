@@ -1,6 +1,5 @@
 -- `peripheral_turn::turn::turn` meets its contract.
 use mathlib.Core.Path.{sym, ◌∙◌, ap}
-use borrow.Author.Rules.{rules}
 use Rattle.peripheral_machine.specs.Machine.{machine}
 use Rattle.peripheral_machine.specs.declared.numbers.Processor.{Processor}
 use Rattle.peripheral_turn.specs.Laws.Turn.{kept_memory, kept-held, kept-package, kept-effect, turn_stopped, turn-running}

@@ -1,8 +1,7 @@
 -- `shared_calls::stints::run_stints` meets its contract.
 use Prim.Native.Nat.{◌-◌}
 use native.Mathlib.Omega.{arith}
-use lib.ListN.{length}
-use Rattle.shared_calls.specs.Laws.Stints.{StintsGoing, stints-going-start, stints-going-end, stint-allowed, stints-going-on}
+use Rattle.shared_calls.specs.Laws.Stints.{stints-going-start, stints-going-end, stint-allowed, stints-going-on}
 use Rattle.shared_calls.proofs.stints.run_stints.Goals as goal
 
 pub loop-k-init : goal.loop-k-init

@@ -1,8 +1,7 @@
 -- `shared_calls::stints::run_stints` meets its contract.
 use Prim.Native.Nat.{◌-◌}
-use native.Mathlib.Omega.{arith}
 use lib.ListN.{length}
-use Rattle.shared_calls.specs.Laws.Stints.{StintsGoing, stints-going-start, stints-going-end, stint-allowed, stints-going-on}
+use Rattle.shared_calls.specs.Laws.Stints.{StintsGoing}
 use Rattle.shared_calls.proofs.stints.run_stints.Given as goal
 
 abbrev pub invariant-loop-k : goal.invariant-loop-k

@@ -1,11 +1,8 @@
 -- `shared_fault::lists::first_not_below` meets its contract.
 use Prim.Native.Nat.{◌-◌}
 use native.Mathlib.Omega.{arith}
-use borrow.Author.Rules.{rules}
 use borrow.Author.Tests.{lt-ltb, le-ltb}
-use lib.ListN.{length}
-use Rattle.central_record.specs.Record.{below}
-use Rattle.base_lists.specs.Laws.Indexed.{Passed, none_yet, one_more}
+use Rattle.base_lists.specs.Laws.Indexed.{none_yet, one_more}
 use Rattle.shared_fault.specs.Laws.Search.{found, none_found}
 use Rattle.shared_fault.proofs.lists.first_not_below.Goals as goal
 

@@ -1,13 +1,8 @@
 -- `shared_fault::owners::first_field_past_end` meets its contract.
 use Prim.Native.Nat.{◌-◌}
-use native.Mathlib.Omega.{arith}
-use borrow.Author.Rules.{rules}
 use lib.ListN.{length, get_or}
-use Rattle.base_lists.specs.Laws.Indexed.{Passed, none_yet, one_more}
+use Rattle.base_lists.specs.Laws.Indexed.{Passed}
 use Rattle.exchange_jump.specs.Jump.{field_inside}
-use Rattle.shared_verdict.specs.Laws.Owners.{package-inside}
-use Rattle.base_logic.specs.Laws.Tests.{holds, fails}
-use Rattle.shared_fault.specs.Laws.Search.{found, none_found}
 use Rattle.shared_fault.proofs.owners.first_field_past_end.Given as goal
 
 abbrev pub invariant-loop-i : goal.invariant-loop-i

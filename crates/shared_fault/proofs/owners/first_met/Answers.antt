@@ -2,10 +2,8 @@
 use Rattle.std.proofs.Common.{sym, ◌∙◌}
 use Prim.Native.Nat.{◌-◌}
 use native.Mathlib.Omega.{arith}
-use lib.ListN.{length}
-use Rattle.base_lists.specs.Laws.Indexed.{Passed, none_yet, one_more}
+use Rattle.base_lists.specs.Laws.Indexed.{none_yet, one_more}
 use Rattle.shared_schedule.specs.Refusals.{jobs_apart}
-use Rattle.base_logic.specs.Laws.Tests.{holds, fails}
 use Rattle.shared_fault.specs.Laws.Search.{found, none_found}
 use Rattle.shared_fault.proofs.owners.first_met.Goals as goal
 

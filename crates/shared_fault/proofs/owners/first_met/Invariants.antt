@@ -1,11 +1,8 @@
 -- `shared_fault::owners::first_met` meets its contract.
 use Prim.Native.Nat.{◌-◌}
-use native.Mathlib.Omega.{arith}
 use lib.ListN.{length}
-use Rattle.base_lists.specs.Laws.Indexed.{Passed, none_yet, one_more}
+use Rattle.base_lists.specs.Laws.Indexed.{Passed}
 use Rattle.shared_schedule.specs.Refusals.{jobs_apart}
-use Rattle.base_logic.specs.Laws.Tests.{holds, fails}
-use Rattle.shared_fault.specs.Laws.Search.{found, none_found}
 use Rattle.shared_fault.proofs.owners.first_met.Given as goal
 
 abbrev pub invariant-loop-j : goal.invariant-loop-j

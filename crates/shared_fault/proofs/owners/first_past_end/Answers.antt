@@ -2,11 +2,8 @@
 use Rattle.std.proofs.Common.{sym, ◌∙◌}
 use Prim.Native.Nat.{◌-◌}
 use native.Mathlib.Omega.{arith}
-use borrow.Author.Rules.{rules}
-use lib.ListN.{length, get_or}
-use Rattle.base_lists.specs.Laws.Indexed.{Passed, none_yet, one_more}
+use Rattle.base_lists.specs.Laws.Indexed.{none_yet, one_more}
 use Rattle.exchange_jump.specs.Jump.{package_inside}
-use Rattle.base_logic.specs.Laws.Tests.{holds, fails}
 use Rattle.shared_fault.specs.Laws.Search.{found, none_found}
 use Rattle.shared_fault.proofs.owners.first_past_end.Goals as goal
 

@@ -3,9 +3,7 @@ use mathlib.Core.Bool.{not}
 use mathlib.Core.Path.{sym, ◌∙◌, ap}
 use Prim.Native.Nat.{◌-◌}
 use native.Mathlib.Omega.{arith}
-use borrow.Author.Rules.{rules}
-use lib.ListN.{length, get_or}
-use Rattle.base_lists.specs.Laws.Indexed.{Passed, none_yet, one_more}
+use Rattle.base_lists.specs.Laws.Indexed.{none_yet, one_more}
 use Rattle.exchange_jump.specs.Jump.{package_clean}
 use Rattle.shared_verdict.specs.Laws.Owners.{package-inside}
 use Rattle.shared_fault.specs.Laws.Search.{found, none_found}

@@ -1,5 +1,4 @@
 -- `shared_fault::owners::overlap_fault` meets its contract.
-use borrow.Author.Rules.{rules}
 use Rattle.shared_fault.specs.Laws.Owners.{first-pair}
 use Rattle.shared_fault.proofs.owners.overlap_fault.Goals as goal
 

@@ -1,5 +1,4 @@
 -- `shared_fault::owners::pair_fault` meets its contract.
-use borrow.Author.Rules.{rules}
 use Rattle.shared_verdict.specs.Laws.Owners.{package-inside, package-end, field_end}
 use Rattle.shared_fault.specs.Fault.{pair_fault}
 use Rattle.shared_fault.proofs.owners.pair_fault.Goals as goal

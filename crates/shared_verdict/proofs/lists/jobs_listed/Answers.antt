@@ -1,5 +1,4 @@
 -- `shared_verdict::lists::jobs_listed` meets its contract.
-use borrow.Author.Rules.{rules}
 use Rattle.shared_schedule.specs.Refusals.{jobs_listed}
 use Rattle.shared_verdict.proofs.lists.jobs_listed.Goals as goal
 

@@ -1,8 +1,6 @@
 -- `shared_verdict::lists::lists_fit` meets its contract.
 use Rattle.std.proofs.Common.{sym, ◌∙◌}
-use borrow.Author.Rules.{rules}
 use borrow.Author.Tests.{le-leb, lt-leb}
-use Rattle.base_logic.specs.Laws.Tests.{holds, fails}
 use Rattle.shared_limits.specs.Limits.{most_stints}
 use Rattle.shared_schedule.specs.Refusals.{lists_fit}
 use Rattle.shared_verdict.proofs.lists.lists_fit.Goals as goal

@@ -1,8 +1,6 @@
 -- `shared_verdict::lists::lists_verdict` meets its contract.
 use Rattle.std.proofs.Common.{sym, ◌∙◌}
-use borrow.Author.Rules.{rules}
 use Rattle.shared_schedule.specs.Refusals.{lists_verdict}
-use Rattle.base_logic.specs.Laws.Tests.{holds, fails}
 use Rattle.shared_verdict.proofs.lists.lists_verdict.Goals as goal
 
 pub returns-then-not-lists_fit : goal.returns-then-not-lists_fit

@@ -1,6 +1,5 @@
 -- `shared_verdict::lists::turns_fit` meets its contract.
 use mathlib.Core.Path.{◌∙◌}
-use borrow.Author.Rules.{rules}
 use Rattle.central_record.specs.Laws.Record.{below_suc}
 use Rattle.single_calls.specs.Turns.{most_turns}
 use Rattle.shared_schedule.specs.Refusals.{turns_fit}

@@ -2,11 +2,8 @@
 use Rattle.std.proofs.Common.{sym, ◌∙◌}
 use Prim.Native.Nat.{◌-◌}
 use native.Mathlib.Omega.{arith}
-use lib.ListN.{length}
-use Rattle.base_lists.specs.Indexed.{all_below}
-use Rattle.base_lists.specs.Laws.Indexed.{Passed, none_yet, one_more, all-passed, one-fails}
-use Rattle.shared_schedule.specs.Refusals.{jobs_apart, all_apart}
-use Rattle.base_logic.specs.Laws.Tests.{holds, fails}
+use Rattle.base_lists.specs.Laws.Indexed.{none_yet, one_more, all-passed, one-fails}
+use Rattle.shared_schedule.specs.Refusals.{all_apart}
 use Rattle.shared_verdict.proofs.owners.all_apart.Goals as goal
 
 pub loop-i-init : goal.loop-i-init

@@ -2,10 +2,8 @@
 use Rattle.std.proofs.Common.{sym, ◌∙◌}
 use Prim.Native.Nat.{◌-◌}
 use native.Mathlib.Omega.{arith}
-use lib.ListN.{length}
-use Rattle.base_lists.specs.Laws.Indexed.{Passed, none_yet, one_more, all-passed, one-fails}
+use Rattle.base_lists.specs.Laws.Indexed.{none_yet, one_more, all-passed, one-fails}
 use Rattle.shared_schedule.specs.Refusals.{jobs_apart}
-use Rattle.base_logic.specs.Laws.Tests.{holds, fails}
 use Rattle.shared_verdict.proofs.owners.apart_from_all.Goals as goal
 
 pub loop-j-init : goal.loop-j-init

@@ -1,10 +1,8 @@
 -- `shared_verdict::owners::apart_from_all` meets its contract.
 use Prim.Native.Nat.{◌-◌}
-use native.Mathlib.Omega.{arith}
 use lib.ListN.{length}
-use Rattle.base_lists.specs.Laws.Indexed.{Passed, none_yet, one_more, all-passed, one-fails}
+use Rattle.base_lists.specs.Laws.Indexed.{Passed}
 use Rattle.shared_schedule.specs.Refusals.{jobs_apart}
-use Rattle.base_logic.specs.Laws.Tests.{holds, fails}
 use Rattle.shared_verdict.proofs.owners.apart_from_all.Given as goal
 
 abbrev pub invariant-loop-j : goal.invariant-loop-j

@@ -2,7 +2,6 @@
 use mathlib.Core.Bool.{and-true, and-false}
 use native.Mathlib.Omega.{arith}
 use borrow.Author.Tests.{eq-eqb, ne_eqb}
-use borrow.Author.Rules.{rules}
 use Rattle.shared_schedule.specs.Refusals.{jobs_apart}
 use Rattle.shared_verdict.specs.Laws.Owners.{package-inside, package-end, field_end}
 use Rattle.shared_verdict.proofs.owners.jobs_apart.Goals as goal

@@ -1,8 +1,6 @@
 -- `shared_verdict::owners::owners_verdict` meets its contract.
 use Rattle.std.proofs.Common.{sym, ◌∙◌}
-use borrow.Author.Rules.{rules}
 use Rattle.shared_schedule.specs.Refusals.{owners_verdict}
-use Rattle.base_logic.specs.Laws.Tests.{holds, fails}
 use Rattle.shared_verdict.proofs.owners.owners_verdict.Goals as goal
 
 pub returns-then-not-packages_inside : goal.returns-then-not-packages_inside

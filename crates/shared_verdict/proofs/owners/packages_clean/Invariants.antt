@@ -1,13 +1,8 @@
 -- `shared_verdict::owners::packages_clean` meets its contract.
-use mathlib.Core.Bool.{not}
-use mathlib.Core.Path.{sym, ◌∙◌, ap}
 use Prim.Native.Nat.{◌-◌}
-use native.Mathlib.Omega.{arith}
-use borrow.Author.Rules.{rules}
 use lib.ListN.{length, get_or}
-use Rattle.base_lists.specs.Laws.Indexed.{Passed, none_yet, one_more, all-passed, one-fails}
+use Rattle.base_lists.specs.Laws.Indexed.{Passed}
 use Rattle.exchange_jump.specs.Jump.{package_clean}
-use Rattle.shared_verdict.specs.Laws.Owners.{package-inside}
 use Rattle.shared_verdict.proofs.owners.packages_clean.Given as goal
 
 abbrev pub invariant-loop-i : goal.invariant-loop-i

@@ -1,6 +1,5 @@
 -- `shared_verdict::verdict::schedule_verdict` meets its contract.
 use mathlib.Core.Path.{◌∙◌, sym}
-use borrow.Author.Rules.{rules}
 use Rattle.exchange_jump.specs.Laws.Verdicts.{host-accepted}
 use Rattle.shared_schedule.specs.Refusals.{schedule_verdict}
 use Rattle.shared_verdict.proofs.verdict.schedule_verdict.Goals as goal

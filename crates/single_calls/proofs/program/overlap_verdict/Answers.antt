@@ -1,6 +1,5 @@
 -- `single_calls::program::overlap_verdict` meets its contract.
 use native.Mathlib.Omega.{arith}
-use borrow.Author.Rules.{rules}
 use Rattle.single_calls.specs.Program.{overlap_verdict}
 use Rattle.single_calls.proofs.program.overlap_verdict.Goals as goal
 

@@ -1,6 +1,5 @@
 -- `single_calls::program::owner_verdict` meets its contract.
 use mathlib.Core.Path.{◌∙◌, sym}
-use borrow.Author.Rules.{rules}
 use Rattle.exchange_jump.specs.Laws.Verdicts.{package-accepted}
 use Rattle.single_calls.specs.Program.{owner_verdict}
 use Rattle.single_calls.proofs.program.owner_verdict.Goals as goal

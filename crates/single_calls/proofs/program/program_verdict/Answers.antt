@@ -1,6 +1,5 @@
 -- `single_calls::program::program_verdict` meets its contract.
 use mathlib.Core.Path.{◌∙◌, sym}
-use borrow.Author.Rules.{rules}
 use Rattle.single_calls.specs.Program.{program_verdict}
 use Rattle.single_calls.specs.Laws.Turns.{turns-accepted}
 use Rattle.single_calls.proofs.program.program_verdict.Goals as goal

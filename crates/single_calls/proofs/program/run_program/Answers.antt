@@ -1,6 +1,5 @@
 -- `single_calls::program::run_program` meets its contract.
 use mathlib.Core.Path.{◌∙◌, sym}
-use borrow.Author.Rules.{rules}
 use Rattle.single_calls.specs.Program.{program_answer}
 use Rattle.single_calls.specs.Laws.Program.{program-accepted}
 use Rattle.single_calls.proofs.program.run_program.Goals as goal

@@ -1,6 +1,5 @@
 -- `single_calls::record_calls::central_turn` meets its contract.
 use mathlib.Core.Path.{◌∙◌, sym, ap}
-use borrow.Author.Rules.{rules}
 use Rattle.base_outcome.specs.declared.refusal.Verdict.TheVariants as Call
 use Rattle.exchange_jump.specs.Laws.Verdicts.{host-accepted}
 use Rattle.single_calls.specs.RecordCalls.{central_answered, turn_answer}

@@ -1,6 +1,5 @@
 -- `single_calls::record_calls::exchange` meets its contract.
 use mathlib.Core.Path.{◌∙◌, sym}
-use borrow.Author.Rules.{rules}
 use Rattle.central_record.specs.Laws.Record.{fits}
 use Rattle.single_calls.specs.RecordCalls.{exchange_answer}
 use Rattle.single_calls.specs.Laws.RecordCalls.{exchange-host, exchange-owner}

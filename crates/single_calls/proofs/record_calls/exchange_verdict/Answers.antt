@@ -1,5 +1,4 @@
 -- `single_calls::record_calls::exchange_verdict` meets its contract.
-use borrow.Author.Rules.{rules}
 use Rattle.single_calls.specs.RecordCalls.{exchange_verdict}
 use Rattle.single_calls.proofs.record_calls.exchange_verdict.Goals as goal
 

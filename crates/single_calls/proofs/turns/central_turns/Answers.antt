@@ -1,6 +1,5 @@
 -- `single_calls::turns::central_turns` meets its contract.
 use mathlib.Core.Path.{◌∙◌, sym}
-use borrow.Author.Rules.{rules}
 use Rattle.single_calls.specs.Turns.{turns_answer}
 use Rattle.single_calls.specs.Laws.Turns.{turns-accepted}
 use Rattle.single_calls.proofs.turns.central_turns.Goals as goal

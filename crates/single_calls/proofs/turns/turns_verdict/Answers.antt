@@ -1,6 +1,5 @@
 -- `single_calls::turns::turns_verdict` meets its contract.
 use borrow.Author.Tests.{lt-ltb, le-ltb}
-use borrow.Author.Rules.{rules}
 use Rattle.single_calls.specs.Turns.{turns_verdict}
 use Rattle.single_calls.proofs.turns.turns_verdict.Goals as goal
 

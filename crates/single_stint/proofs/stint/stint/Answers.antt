@@ -1,5 +1,4 @@
 -- `single_stint::stint::stint` meets its contract.
-use borrow.Author.Rules.{rules}
 use Rattle.single_stint.specs.Laws.Stint.{stint-is, fits-package, turns-may-run, may-exchange-out}
 use Rattle.single_stint.proofs.stint.stint.Goals as goal
 

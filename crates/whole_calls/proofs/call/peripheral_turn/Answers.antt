@@ -2,7 +2,6 @@
 use mathlib.Core.Path.{sym, ◌∙◌}
 use Rattle.whole_calls.specs.Call.{left, turn_given, peripheral_turn_answer}
 use Rattle.whole_calls.specs.Laws.Call.{carried-out, machine-refused}
-use borrow.Author.Rules.{rules}
 use Rattle.whole_calls.proofs.call.peripheral_turn.Goals as goal
 
 pub turn-after-requires : goal.turn-after-requires

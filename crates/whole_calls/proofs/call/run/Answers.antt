@@ -2,7 +2,6 @@
 use mathlib.Core.Path.{sym, ◌∙◌}
 use Rattle.whole_calls.specs.Call.{left, run_given, run_answer}
 use Rattle.whole_calls.specs.Laws.Call.{carried-out, machine-refused}
-use borrow.Author.Rules.{rules}
 use Rattle.whole_calls.proofs.call.run.Goals as goal
 
 pub make_rounds-o-requires : goal.make_rounds-o-requires

@@ -1,7 +1,6 @@
 -- `whole_processors::processors::processor_turn` meets its contract.
 use Rattle.peripheral_machine.specs.Machine.{machine}
 use Rattle.whole_processors.specs.Laws.Processors.{lent-words, lent-kept, processor-is}
-use borrow.Author.Rules.{rules}
 use Rattle.whole_processors.proofs.processors.processor_turn.Goals as goal
 
 pub turn-requires : goal.turn-requires

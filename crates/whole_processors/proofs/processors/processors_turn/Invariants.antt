@@ -1,8 +1,7 @@
 -- `whole_processors::processors::processors_turn` meets its contract.
-use native.Mathlib.Omega.{arith}
 use lib.ListN.{length}
 use Rattle.peripheral_machine.specs.Machine.{machine}
-use Rattle.whole_processors.specs.Laws.Processors.{own-size, ProcessorsGoing, processors-going-start, processors-going-on, processors-going-end}
+use Rattle.whole_processors.specs.Laws.Processors.{ProcessorsGoing}
 use Rattle.whole_processors.proofs.processors.processors_turn.Given as goal
 
 abbrev pub invariant-loop-left : goal.invariant-loop-left

@@ -1,5 +1,4 @@
 -- `whole_record::numbers::channels_of` meets its contract.
-use borrow.Author.Rules.{rules}
 use Rattle.base_lists.specs.Indexed.{tabulate}
 use Rattle.whole_record.proofs.numbers.channels_of.Goals as goal
 

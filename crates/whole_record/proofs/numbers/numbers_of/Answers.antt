@@ -1,6 +1,5 @@
 -- `whole_record::numbers::numbers_of` meets its contract.
 use mathlib.Core.Path.{refl}
-use borrow.Author.Rules.{rules}
 use Rattle.base_lists.specs.Indexed.{tabulate}
 use Rattle.whole_record.specs.Laws.Literal.{numbers-are, entry-then}
 use Rattle.whole_record.proofs.numbers.numbers_of.Goals as goal

@@ -1,5 +1,4 @@
 -- `whole_record::numbers::processors_of` meets its contract.
-use borrow.Author.Rules.{rules}
 use Rattle.base_lists.specs.Indexed.{tabulate}
 use Rattle.whole_record.proofs.numbers.processors_of.Goals as goal
 

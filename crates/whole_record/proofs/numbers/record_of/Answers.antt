@@ -1,5 +1,4 @@
 -- `whole_record::numbers::record_of` meets its contract.
-use borrow.Author.Rules.{rules}
 use Rattle.whole_record.proofs.numbers.record_of.Goals as goal
 
 pub returns : goal.returns

@@ -2,10 +2,9 @@
 use mathlib.Core.Path.{ap, sym, ◌∙◌}
 use Prim.Native.Nat.{◌-◌}
 use native.Mathlib.Omega.{arith}
-use borrow.Author.Rules.{rules}
 use borrow.Author.Tests.{eq-eqb, ne_eqb}
 use mathlib.Core.Bool.{not}
-use Rattle.base_lists.specs.Laws.Indexed.{Passed, none_yet, one_more, all-passed, one-fails}
+use Rattle.base_lists.specs.Laws.Indexed.{none_yet, one_more, all-passed, one-fails}
 use Rattle.peripheral_machine.specs.declared.numbers.Processor.{Processor}
 use Rattle.whole_rounds.specs.Rounds.{is_stopped}
 use Rattle.whole_rounds.specs.Laws.Rounds.{central-runs, others-decide}

@@ -6,7 +6,6 @@ use Rattle.central_turn.specs.Laws.Place.{place-back}
 use Rattle.single_stint.specs.Laws.Field.{field-inside, field_room, field-kept, p-short}
 use Rattle.whole_rounds.specs.Laws.Central.{central-stopped, central-running}
 use lib.ListN.{get_or}
-use borrow.Author.Rules.{rules}
 use Rattle.whole_rounds.proofs.round.central_turn.Goals as goal
 
 pub returns-then-s-ne0 : goal.returns-then-s-ne0

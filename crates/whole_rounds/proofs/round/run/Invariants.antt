@@ -1,10 +1,7 @@
 -- `whole_rounds::round::run` meets its contract.
-use mathlib.Core.Path.{sym, ◌∙◌}
 use Prim.Native.Nat.{◌-◌}
-use native.Mathlib.Omega.{arith}
-use borrow.Author.Rules.{rules}
 use Rattle.peripheral_machine.specs.Machine.{machine}
-use Rattle.whole_rounds.specs.Laws.Rounds.{RoundsGoing, rounds-going-start, rounds-going-stop, rounds-going-on, rounds-going-end}
+use Rattle.whole_rounds.specs.Laws.Rounds.{RoundsGoing}
 use Rattle.whole_rounds.proofs.round.run.Given as goal
 
 abbrev pub invariant-loop-made : goal.invariant-loop-made

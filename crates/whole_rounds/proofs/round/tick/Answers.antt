@@ -1,7 +1,6 @@
 -- `whole_rounds::round::tick` meets its contract.
 use Rattle.whole_rounds.specs.Rounds.{ticked}
 use mathlib.Core.Path.{refl}
-use borrow.Author.Rules.{rules}
 use Rattle.whole_rounds.proofs.round.tick.Goals as goal
 
 pub returns : goal.returns

@@ -1,9 +1,7 @@
 -- `whole_verdict::verdict::channels_fit` meets its contract.
 use Prim.Native.Nat.{◌-◌}
-use native.Mathlib.Omega.{arith}
-use Rattle.base_logic.specs.Laws.Tests.{holds, fails}
-use Rattle.base_lists.specs.Laws.Indexed.{Passed, none_yet, one_more, all-passed, one-fails}
-use Rattle.whole_record.specs.Record.{channel_fits_at, channels_fit}
+use Rattle.base_lists.specs.Laws.Indexed.{Passed}
+use Rattle.whole_record.specs.Record.{channel_fits_at}
 use Rattle.whole_verdict.proofs.verdict.channels_fit.Given as goal
 
 abbrev pub invariant-loop-i : goal.invariant-loop-i

@@ -3,8 +3,6 @@ use Rattle.std.proofs.Common.{sym, ◌∙◌}
 use Prim.Native.Nat.{◌^◌}
 use native.Mathlib.Omega.{arith}
 use borrow.Author.Tests.{lt-ltb, le-ltb}
-use borrow.Author.Rules.{rules}
-use Rattle.base_logic.specs.Laws.Tests.{holds, fails}
 use Rattle.whole_record.specs.Record.{machine_fits}
 use Rattle.whole_verdict.proofs.verdict.machine_fits.Goals as goal
 

@@ -1,7 +1,5 @@
 -- `whole_verdict::verdict::machine_verdict` meets its contract.
 use Rattle.std.proofs.Common.{sym, ◌∙◌}
-use borrow.Author.Rules.{rules}
-use Rattle.base_logic.specs.Laws.Tests.{holds, fails}
 use Rattle.whole_verdict.specs.Verdict.{machine_verdict}
 use Rattle.whole_verdict.proofs.verdict.machine_verdict.Goals as goal
 

@@ -2,9 +2,7 @@
 use Rattle.std.proofs.Common.{sym, ◌∙◌}
 use Prim.Native.Nat.{◌-◌}
 use native.Mathlib.Omega.{arith}
-use borrow.Author.Rules.{rules}
-use Rattle.base_lists.specs.Laws.Indexed.{Passed, none_yet, one_more, all-passed, one-fails}
-use Rattle.base_logic.specs.Laws.Tests.{holds, fails}
+use Rattle.base_lists.specs.Laws.Indexed.{none_yet, one_more, all-passed, one-fails}
 use Rattle.whole_record.specs.Record.{processor_fits_at, processors_fit}
 use Rattle.whole_verdict.proofs.verdict.processors_fit.Goals as goal
 

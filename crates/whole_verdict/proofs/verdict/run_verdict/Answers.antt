@@ -1,7 +1,6 @@
 -- `whole_verdict::verdict::run_verdict` meets its contract.
 use native.Mathlib.Omega.{arith}
 use borrow.Author.Tests.{lt-ltb, le-ltb}
-use borrow.Author.Rules.{rules}
 use Rattle.whole_verdict.specs.Verdict.{run_verdict}
 use Rattle.whole_verdict.proofs.verdict.run_verdict.Goals as goal
 

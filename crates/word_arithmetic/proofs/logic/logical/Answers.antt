@@ -1,9 +1,7 @@
 -- `word_arithmetic::logic::logical` meets its contract.
 use native.Mathlib.Omega.{arith}
 use Rattle.std.specs.Prelude.{◌≡◌}
-use borrow.Author.Rules.{rules}
 use Rattle.word_arithmetic.specs.Logic.{logical}
-use Rattle.base_logic.specs.Laws.Match.{last_arm}
 use Rattle.word_arithmetic.proofs.logic.logical.Goals as goal
 
 pub returns-in-0 : goal.returns-in-0

@@ -1,5 +1,4 @@
 -- `word_arithmetic::logic::selective_clear` meets its contract.
-use borrow.Author.Rules.{rules}
 use Rattle.word_arithmetic.proofs.logic.selective_clear.Goals as goal
 
 pub returns : goal.returns

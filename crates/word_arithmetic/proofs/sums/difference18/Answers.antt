@@ -1,5 +1,4 @@
 -- `word_arithmetic::sums::difference18` meets its contract.
-use borrow.Author.Rules.{rules}
 use Rattle.word_arithmetic.proofs.sums.difference18.Goals as goal
 
 pub returns : goal.returns

@@ -1,5 +1,4 @@
 -- `word_arithmetic::sums::difference60` meets its contract.
-use borrow.Author.Rules.{rules}
 use Rattle.word_arithmetic.proofs.sums.difference60.Goals as goal
 
 pub returns : goal.returns

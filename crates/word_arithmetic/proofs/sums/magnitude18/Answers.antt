@@ -1,6 +1,5 @@
 -- `word_arithmetic::sums::magnitude18` meets its contract.
 use borrow.Author.Tests.{le-leb, lt-leb}
-use borrow.Author.Rules.{rules}
 use Rattle.word_arithmetic.specs.Sums.{magnitude}
 use Rattle.word_arithmetic.proofs.sums.magnitude18.Goals as goal
 

@@ -1,6 +1,5 @@
 -- `word_arithmetic::sums::magnitude60` meets its contract.
 use borrow.Author.Tests.{le-leb, lt-leb}
-use borrow.Author.Rules.{rules}
 use Rattle.word_arithmetic.specs.Sums.{magnitude}
 use Rattle.word_arithmetic.proofs.sums.magnitude60.Goals as goal
 

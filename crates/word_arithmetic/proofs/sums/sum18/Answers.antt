@@ -1,6 +1,5 @@
 -- `word_arithmetic::sums::sum18` meets its contract.
 use mathlib.Core.Path.{sym}
-use borrow.Author.Rules.{rules}
 use Rattle.word_arithmetic.specs.Laws.Sums.{sum-plain, sum-carried}
 use Rattle.word_arithmetic.proofs.sums.sum18.Goals as goal
 

@@ -1,6 +1,5 @@
 -- `word_arithmetic::sums::sum60` meets its contract.
 use mathlib.Core.Path.{sym}
-use borrow.Author.Rules.{rules}
 use Rattle.word_arithmetic.specs.Laws.Sums.{sum-plain, sum-carried}
 use Rattle.word_arithmetic.proofs.sums.sum60.Goals as goal
 

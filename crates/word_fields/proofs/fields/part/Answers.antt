@@ -1,5 +1,4 @@
 -- `word_fields::fields::part` meets its contract.
-use borrow.Author.Rules.{rules}
 use lib.Bits.{and_mask}
 use Rattle.word_fields.proofs.fields.part.Goals as goal
 

@@ -1,7 +1,6 @@
 -- `word_octal::read::digit` meets its contract.
 use mathlib.Core.Path.{sym}
 use native.Mathlib.Omega.{arith}
-use borrow.Author.Rules.{rules}
 use Rattle.word_octal.specs.Laws.Read.{digits-room, no_room}
 use Rattle.word_octal.proofs.read.digit.Goals as goal
 

@@ -1,7 +1,6 @@
 -- `word_octal::read::feed` meets its contract.
 use mathlib.Core.Path.{sym, ◌∙◌}
 use native.Mathlib.Omega.{arith}
-use borrow.Author.Rules.{rules}
 use Rattle.word_octal.specs.Laws.Read.{fed-space, fed-line-feed, fed-below, fed-above, fed-digit}
 use Rattle.word_octal.proofs.read.feed.Goals as goal
 

@@ -1,8 +1,7 @@
 -- `word_octal::text::value_of` meets its contract.
 use Prim.Native.Nat.{◌-◌}
 use native.Mathlib.Omega.{arith}
-use lib.ListN.{length}
-use Rattle.word_octal.specs.Laws.Text.{ValueReading, reading-start, reading-end, reading-room, reading-below, reading-above, reading-next}
+use Rattle.word_octal.specs.Laws.Text.{reading-start, reading-end, reading-room, reading-below, reading-above, reading-next}
 use Rattle.word_octal.proofs.text.value_of.Goals as goal
 
 pub loop-i-init : goal.loop-i-init

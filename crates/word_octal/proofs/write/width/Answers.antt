@@ -1,8 +1,6 @@
 -- `word_octal::write::width` meets its contract.
-use mathlib.Core.Path.{◌≡◌, refl, ◌∙◌}
-use Prim.Native.Nat.{◌≤◌}
+use mathlib.Core.Path.{refl, ◌∙◌}
 use native.Mathlib.Omega.{arith}
-use Rattle.word_octal.specs.Write.{width_in}
 use Rattle.word_octal.specs.Laws.Write.{width-found, width-below, width-last}
 use Rattle.word_octal.proofs.write.width.Goals as goal
 

@@ -1,9 +1,7 @@
 -- `word_octal::write::width` meets its contract.
-use mathlib.Core.Path.{◌≡◌, refl, ◌∙◌}
+use mathlib.Core.Path.{◌≡◌}
 use Prim.Native.Nat.{◌≤◌}
-use native.Mathlib.Omega.{arith}
 use Rattle.word_octal.specs.Write.{width_in}
-use Rattle.word_octal.specs.Laws.Write.{width-found, width-below, width-last}
 use Rattle.word_octal.proofs.write.width.Given as goal
 
 abbrev pub invariant-loop-k : goal.invariant-loop-k

@@ -1,9 +1,7 @@
 -- `word_octal::write::write_digits` meets its contract.
-use Prim.Native.Nat.{◌≤◌}
 use native.Mathlib.Omega.{arith}
-use Rattle.word_octal.specs.Write.{digits}
 use Rattle.word_octal.specs.Laws.Write.{digits-total, digits-next, digits-end}
-use Rattle.base_lists.specs.Laws.Written.{Writing, writing_start}
+use Rattle.base_lists.specs.Laws.Written.{writing_start}
 use Rattle.word_octal.proofs.write.write_digits.Goals as goal
 
 pub loop-k-init : goal.loop-k-init

@@ -1,9 +1,7 @@
 -- `word_octal::write::write_digits` meets its contract.
 use Prim.Native.Nat.{◌≤◌}
-use native.Mathlib.Omega.{arith}
 use Rattle.word_octal.specs.Write.{digits}
-use Rattle.word_octal.specs.Laws.Write.{digits-total, digits-next, digits-end}
-use Rattle.base_lists.specs.Laws.Written.{Writing, writing_start}
+use Rattle.base_lists.specs.Laws.Written.{Writing}
 use Rattle.word_octal.proofs.write.write_digits.Given as goal
 
 abbrev pub invariant-loop-k : goal.invariant-loop-k

@@ -1,6 +1,5 @@
 -- `word_octal::write::write_octal` meets its contract.
 use native.Mathlib.Omega.{arith}
-use borrow.Author.Rules.{rules}
 use Rattle.word_octal.specs.Laws.Write.{width-le, wrote-octal}
 use Rattle.word_octal.proofs.write.write_octal.Goals as goal
 

@@ -1,7 +1,6 @@
 -- `word_shift::floating::coefficient` meets its contract.
 use native.Mathlib.Omega.{arith}
 use borrow.Author.Tests.{le-leb, lt-leb}
-use borrow.Author.Rules.{rules}
 use lib.Bits.{and_mask, mask_lt}
 use Rattle.word_shift.specs.Floating.{coefficient_of}
 use Rattle.word_shift.proofs.floating.coefficient.Goals as goal

@@ -1,6 +1,5 @@
 -- `word_shift::floating::exponent` meets its contract.
 use borrow.Author.Tests.{le-ltb, lt-ltb}
-use borrow.Author.Rules.{rules}
 use Rattle.word_shift.specs.Floating.{exponent_of, exponent_from}
 use Rattle.word_shift.proofs.floating.exponent.Goals as goal
 

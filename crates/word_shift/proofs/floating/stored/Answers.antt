@@ -1,7 +1,6 @@
 -- `word_shift::floating::stored` meets its contract.
 use native.Mathlib.Omega.{arith}
 use borrow.Author.Tests.{le-leb, lt-leb}
-use borrow.Author.Rules.{rules}
 use Rattle.word_shift.specs.Floating.{stored_from}
 use Rattle.word_shift.proofs.floating.stored.Goals as goal
 

@@ -1,5 +1,4 @@
 -- `word_shift::floating::unpack` meets its contract.
-use borrow.Author.Rules.{rules}
 use Rattle.word_shift.specs.Floating.{unpacked_from}
 use Rattle.word_shift.proofs.floating.unpack.Goals as goal
 

@@ -1,5 +1,4 @@
 -- `word_shift::nominal::goes_left` meets its contract.
-use borrow.Author.Rules.{rules}
 use Rattle.word_shift.specs.Nominal.{goes_left}
 use Rattle.word_shift.proofs.nominal.goes_left.Goals as goal
 

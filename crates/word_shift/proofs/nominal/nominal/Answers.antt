@@ -1,5 +1,4 @@
 -- `word_shift::nominal::nominal` meets its contract.
-use borrow.Author.Rules.{rules}
 use Rattle.word_shift.specs.Nominal.{nominal}
 use Rattle.word_shift.proofs.nominal.nominal.Goals as goal
 

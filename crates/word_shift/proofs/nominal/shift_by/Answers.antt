@@ -1,7 +1,6 @@
 -- `word_shift::nominal::shift_by` meets its contract.
 use mathlib.Core.Path.{◌≡◌}
 use native.Mathlib.Omega.{arith}
-use borrow.Author.Rules.{rules}
 use borrow.Author.Tests.{lt-ltb, le-ltb}
 use lib.Bits.{and_mask}
 use Rattle.word_arithmetic.specs.Bits.{low}

@@ -1,6 +1,5 @@
 -- `word_shift::shifts::count_ones60` meets its contract.
 use mathlib.Core.Path.{◌∙◌}
-use borrow.Author.Rules.{rules}
 use Rattle.word_shift.specs.Laws.Shifts.{count-is}
 use Rattle.word_shift.proofs.shifts.count_ones60.Goals as goal
 

@@ -1,7 +1,6 @@
 -- `word_shift::shifts::mask60` meets its contract.
 use mathlib.Core.Path.{◌∙◌}
 use native.Mathlib.Nat.{lt_of_le_of_lt}
-use borrow.Author.Rules.{rules}
 use lib.Dec.{lit<}
 use lib.Pow.{shr_le}
 use Rattle.word_shift.proofs.Machine.{mask_is}

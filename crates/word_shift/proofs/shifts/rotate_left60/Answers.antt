@@ -1,6 +1,5 @@
 -- `word_shift::shifts::rotate_left60` meets its contract.
 use native.Mathlib.Omega.{arith}
-use borrow.Author.Rules.{rules}
 use Rattle.word_shift.proofs.Machine.{rotated}
 use Rattle.word_shift.proofs.shifts.rotate_left60.Goals as goal
 

@@ -1,6 +1,5 @@
 -- `word_shift::shifts::shift_a` meets its contract.
 use borrow.Author.Tests.{le-ltb, lt-ltb}
-use borrow.Author.Rules.{rules}
 use Rattle.word_shift.specs.Shifts.{shift_a}
 use Rattle.word_shift.proofs.shifts.shift_a.Goals as goal
 

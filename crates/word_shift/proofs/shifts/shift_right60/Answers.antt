@@ -1,7 +1,6 @@
 -- `word_shift::shifts::shift_right60` meets its contract.
 use native.Mathlib.Omega.{arith}
 use borrow.Author.Tests.{le-leb, lt-leb}
-use borrow.Author.Rules.{rules}
 use Rattle.word_shift.specs.Shifts.{shift_right_signed}
 use Rattle.word_shift.proofs.Machine.{or-mask}
 use Rattle.word_shift.proofs.shifts.shift_right60.Goals as goal
