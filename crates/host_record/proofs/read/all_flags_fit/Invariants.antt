@@ -1,9 +1,7 @@
 -- `host_record::read::all_flags_fit` meets its contract.
 use Prim.Native.Nat.{◌-◌}
-use native.Mathlib.Omega.{arith}
-use Rattle.base_logic.specs.Laws.Tests.{holds, fails}
-use Rattle.base_lists.specs.Laws.Indexed.{Passed, none_yet, one_more, all-passed, one-fails}
-use Rattle.host_record.specs.Lent.{flags_fit_in_machine, all_flags_fit}
+use Rattle.base_lists.specs.Laws.Indexed.{Passed}
+use Rattle.host_record.specs.Lent.{flags_fit_in_machine}
 use Rattle.host_record.proofs.read.all_flags_fit.Given as goal
 
 abbrev pub invariant-loop-i : goal.invariant-loop-i

@@ -1,9 +1,7 @@
 -- `host_record::read::channels_in` meets its contract.
-use mathlib.Core.Path.{refl}
 use Prim.Native.Nat.{◌-◌}
-use native.Mathlib.Omega.{arith}
 use Rattle.host_record.specs.Layout.{channel_in_machine}
-use Rattle.base_lists.specs.Laws.Indexed.{Tabulated, none-tabulated, one-tabulated, all-tabulated}
+use Rattle.base_lists.specs.Laws.Indexed.{Tabulated}
 use Rattle.host_record.proofs.read.channels_in.Given as goal
 
 abbrev pub invariant-loop-i : goal.invariant-loop-i
