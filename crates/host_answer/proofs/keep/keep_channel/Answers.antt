@@ -1,5 +1,4 @@
 -- `host_answer::keep::keep_channel` meets its contract.
-use borrow.Author.Rules.{rules}
 use Rattle.host_answer.specs.Laws.Back.{kept-accepted, kept-refused}
 use Rattle.host_answer.proofs.keep.keep_channel.Goals as goal
 

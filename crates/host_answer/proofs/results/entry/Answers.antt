@@ -1,6 +1,5 @@
 -- `host_answer::results::entry` meets its contract.
 use mathlib.Core.Path.{sym}
-use borrow.Author.Rules.{rules}
 use lib.ListN.{get_or-eq_default}
 use Rattle.host_answer.proofs.results.entry.Goals as goal
 

@@ -1,12 +1,9 @@
 -- `host_answer::results::store_stints` meets its contract.
 use mathlib.Core.Path.{refl}
-use Prim.Native.Nat.{◌-◌}
 use native.Mathlib.Omega.{arith}
-use borrow.Author.Rules.{rules}
 use lib.ListN.{length-set}
-use Rattle.base_lists.specs.Laws.Rows.{RowsStored, no-row-stored, length-stored, one-row-stored, all-rows-stored}
+use Rattle.base_lists.specs.Laws.Rows.{no-row-stored, length-stored, one-row-stored, all-rows-stored}
 use Rattle.host_answer.specs.Laws.Results.{pair-stored}
-use Rattle.host_answer.specs.Results.{stint_row}
 use Rattle.host_answer.proofs.results.store_stints.Goals as goal
 
 pub loop-i-init : goal.loop-i-init
@@ -43,7 +40,7 @@ pub loop-i-preserved : goal.loop-i-preserved
 loop-i-preserved c =
     let loop = c.loop-i in
     one-row-stored (λ j. refl) loop.invariant c.loop-i-test.true
-    (pair-stored loop.result loop.i c.entry.ensures c.entry-in-loop-i.ensures)
+    (pair-stored loop.res loop.i c.entry.ensures c.entry-in-loop-i.ensures)
 
 pub shape_of-res : goal.shape_of-res
 shape_of-res c = length-stored c.loop-i.invariant

@@ -1,11 +1,6 @@
 -- `host_answer::results::store_stints` meets its contract.
-use mathlib.Core.Path.{refl}
 use Prim.Native.Nat.{◌-◌}
-use native.Mathlib.Omega.{arith}
-use borrow.Author.Rules.{rules}
-use lib.ListN.{length-set}
-use Rattle.base_lists.specs.Laws.Rows.{RowsStored, no-row-stored, length-stored, one-row-stored, all-rows-stored}
-use Rattle.host_answer.specs.Laws.Results.{pair-stored}
+use Rattle.base_lists.specs.Laws.Rows.{RowsStored}
 use Rattle.host_answer.specs.Results.{stint_row}
 use Rattle.host_answer.proofs.results.store_stints.Given as goal
 

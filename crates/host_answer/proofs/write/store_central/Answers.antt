@@ -1,6 +1,5 @@
 -- `host_answer::write::store_central` meets its contract.
 use mathlib.Core.Path.{◌∙◌, sym}
-use borrow.Author.Rules.{rules}
 use Rattle.host_answer.specs.Laws.Write.{length-central}
 use Rattle.base_lists.specs.Laws.Rows.{stored-whole}
 use Rattle.host_answer.proofs.write.store_central.Goals as goal

@@ -1,6 +1,5 @@
 -- `host_answer::write::store_central_first` meets its contract.
 use native.Mathlib.Omega.{arith}
-use borrow.Author.Rules.{rules}
 use lib.ListN.{length-set}
 use Rattle.host_answer.specs.Laws.Write.{central-stored}
 use Rattle.base_lists.specs.Laws.Rows.{stored-length}

@@ -1,5 +1,4 @@
 -- `host_answer::write::store_channel` meets its contract.
-use borrow.Author.Rules.{rules}
 use Rattle.base_lists.specs.Laws.Rows.{stored-whole}
 use Rattle.host_answer.proofs.write.store_channel.Goals as goal
 

@@ -1,6 +1,5 @@
 -- `host_answer::write::store_channel_at` meets its contract.
 use native.Mathlib.Omega.{arith}
-use borrow.Author.Rules.{rules}
 use lib.ListN.{length-set}
 use Rattle.host_answer.specs.Laws.Write.{places}
 use Rattle.host_answer.proofs.write.store_channel_at.Goals as goal

@@ -1,9 +1,7 @@
 -- `host_answer::write::store_channels` meets its contract.
 use mathlib.Core.Path.{refl}
-use Prim.Native.Nat.{◌-◌}
 use native.Mathlib.Omega.{arith}
-use Rattle.host_record.specs.Layout.{channel_row}
-use Rattle.base_lists.specs.Laws.Rows.{RowsStored, no-row-stored, length-stored, one-row-stored, all-rows-stored}
+use Rattle.base_lists.specs.Laws.Rows.{no-row-stored, length-stored, one-row-stored, all-rows-stored}
 use Rattle.host_answer.proofs.write.store_channels.Goals as goal
 
 pub loop-i-init : goal.loop-i-init

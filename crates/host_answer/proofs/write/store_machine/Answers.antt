@@ -1,6 +1,5 @@
 -- `host_answer::write::store_machine` meets its contract.
 use native.Mathlib.Omega.{arith}
-use borrow.Author.Rules.{rules}
 use lib.ListN.{length-set}
 use Rattle.host_answer.specs.Laws.Write.{machine-stored}
 use Rattle.base_lists.specs.Laws.Rows.{stored-length}

@@ -1,9 +1,6 @@
 -- `host_answer::write::store_registers` meets its contract.
-use mathlib.Core.Path.{refl}
 use Prim.Native.Nat.{◌-◌}
-use native.Mathlib.Omega.{arith}
-use Rattle.host_answer.specs.Laws.Write.{row-of-one}
-use Rattle.base_lists.specs.Laws.Rows.{RowsStored, no-row-stored, length-stored, one-row-stored, all-rows-stored}
+use Rattle.base_lists.specs.Laws.Rows.{RowsStored}
 use Rattle.host_record.specs.Layout.{register_row}
 use Rattle.host_answer.proofs.write.store_registers.Given as goal
 
