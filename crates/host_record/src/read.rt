@@ -22,6 +22,7 @@ fn registers_in(r: &[u64]) -> [u64; 24]
     registers
 }
 
+#[tactic(auto, unfolding(crate::specs::Layout::central_in))]
 fn central_in(r: &[u64]) -> Central
     requires { 29 ≤ length r.now }
     ensures { result ≡ central_in r.now }
@@ -99,6 +100,7 @@ fn processors_in(r: &[u64]) -> [Processor; 10]
     processors
 }
 
+#[tactic(auto, unfolding(crate::specs::Layout::machine_in))]
 fn machine_in(r: &[u64]) -> MachineRecord
     requires { 108 ≤ length r.now }
     ensures { result ≡ machine_in r.now }
@@ -115,6 +117,7 @@ fn machine_in(r: &[u64]) -> MachineRecord
 }
 
 // The three flags of a channel are 0 or 1.
+#[tactic(auto, unfolding(crate::specs::Lent::flags_fit))]
 fn flags_fit(r: &[u64], at: usize) -> bool
     requires { at + 4 ≤ length r.now }
     ensures { result ≡ flags_fit r.now at }
@@ -128,6 +131,7 @@ fn flags_fit(r: &[u64], at: usize) -> bool
     r[at + 2] <= 1
 }
 
+#[tactic(auto, unfolding(crate::specs::Lent::all_flags_fit))]
 fn all_flags_fit(r: &[u64]) -> bool
     requires { 78 ≤ length r.now }
     ensures { result ≡ all_flags_fit r.now }
@@ -142,6 +146,7 @@ fn all_flags_fit(r: &[u64]) -> bool
     true
 }
 
+#[tactic(auto, unfolding(crate::specs::Lent::refused_central))]
 fn refused_central() -> Central
     ensures { result ≡ refused_central }
 {
@@ -155,6 +160,7 @@ fn refused_central() -> Central
     }
 }
 
+#[tactic(auto, unfolding(crate::specs::Lent::refused_channel))]
 fn refused_channel() -> Channel
     ensures { result ≡ refused_channel }
 {
@@ -166,6 +172,7 @@ fn refused_channel() -> Channel
     }
 }
 
+#[tactic(auto, unfolding(crate::specs::Lent::refused_machine))]
 fn refused_machine() -> MachineRecord
     ensures { result ≡ refused_machine }
 {
@@ -187,6 +194,7 @@ fn refused_machine() -> MachineRecord
 }
 
 // The central record that a host lends.
+#[tactic(auto, unfolding(crate::specs::Lent::central_lent))]
 pub fn central_lent(r: &[u64]) -> Central
     ensures { result ≡ central_lent r.now }
 {
@@ -197,6 +205,7 @@ pub fn central_lent(r: &[u64]) -> Central
 }
 
 // The channel that a host lends.
+#[tactic(auto, unfolding(crate::specs::Lent::channel_lent))]
 pub fn channel_lent(r: &[u64]) -> Channel
     ensures { result ≡ channel_lent r.now }
 {
@@ -210,6 +219,7 @@ pub fn channel_lent(r: &[u64]) -> Channel
 }
 
 // The machine's record that a host lends.
+#[tactic(auto, unfolding(crate::specs::Lent::machine_lent))]
 pub fn machine_lent(r: &[u64]) -> MachineRecord
     ensures { result ≡ machine_lent r.now }
 {

@@ -21,7 +21,7 @@ use Rattle.single_calls.specs.declared.turns.TurnsAnswer.{TurnsAnswer}
 use Rattle.single_calls.specs.declared.program.ProgramAnswer.{ProgramAnswer}
 use Rattle.host_record.specs.Layout.{central_numbers}
 use Rattle.host_record.specs.Lent.{central_lent}
-use Rattle.host_record.specs.Laws.Lent.{central-length}
+use Rattle.host_record.proofs.Lent.{central-length}
 use Rattle.host_answer.specs.Back.{Back, back, back_by, short_number}
 use Rattle.host_calls.specs.Central.{central_left, central_left_by, central_turn, central_exchange, turns_left, turns_left_by, central_turns, result_left, program_left, program_run}
 

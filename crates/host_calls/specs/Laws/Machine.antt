@@ -14,7 +14,7 @@ use Rattle.whole_calls.specs.declared.call.TurnAnswer.{TurnAnswer}
 use Rattle.whole_calls.specs.declared.call.RunAnswer.{RunAnswer}
 use Rattle.host_record.specs.Layout.{machine_numbers}
 use Rattle.host_record.specs.Lent.{machine_lent}
-use Rattle.host_record.specs.Laws.Lent.{machine-length}
+use Rattle.host_record.proofs.Lent.{machine-length}
 use Rattle.host_answer.specs.Back.{Back, back, back_by, short_number}
 use Rattle.host_calls.specs.Machine.{machine_left, machine_left_by, processor_turn, run_left, run_left_by, machine_run}
 

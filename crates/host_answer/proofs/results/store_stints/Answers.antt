@@ -1,6 +1,5 @@
 -- `host_answer::results::store_stints` meets its contract.
 use mathlib.Core.Path.{refl}
-use Prim.Native.Nat.{◌-◌}
 use native.Mathlib.Omega.{arith}
 use lib.ListN.{length-set}
 use Rattle.base_lists.specs.Laws.Rows.{no-row-stored, length-stored, one-row-stored, all-rows-stored}
@@ -10,32 +9,11 @@ use Rattle.host_answer.proofs.results.store_stints.Goals as goal
 pub loop-i-init : goal.loop-i-init
 loop-i-init c = no-row-stored
 
-pub overflow_mul-res : goal.overflow_mul-res
-overflow_mul-res c = omega arith
-
-pub offset_bounds-res-i : goal.offset_bounds-res-i
-offset_bounds-res-i c = omega arith
-
 pub bounds-res-i : goal.bounds-res-i
 bounds-res-i c = omega (arith, length-stored c.loop-i.invariant)
 
-pub overflow_mul-res-in-loop-i : goal.overflow_mul-res-in-loop-i
-overflow_mul-res-in-loop-i c = omega arith
-
-pub overflow_add-res : goal.overflow_add-res
-overflow_add-res c = omega arith
-
-pub offset_bounds-res-i-in-loop-i : goal.offset_bounds-res-i-in-loop-i
-offset_bounds-res-i-in-loop-i c = omega arith
-
 pub bounds-res-i-in-loop-i : goal.bounds-res-i-in-loop-i
 bounds-res-i-in-loop-i c = simp length-set (omega (arith, length-stored c.loop-i.invariant))
-
-pub overflow_add-i : goal.overflow_add-i
-overflow_add-i c = omega arith
-
-pub loop-i-smaller : goal.loop-i-smaller
-loop-i-smaller c = omega arith
 
 pub loop-i-preserved : goal.loop-i-preserved
 loop-i-preserved c =

@@ -1,6 +1,5 @@
 -- `host_answer::write::store_processors` meets its contract.
 use mathlib.Core.Path.{refl}
-use Prim.Native.Nat.{◌-◌}
 use native.Mathlib.Omega.{arith}
 use Rattle.base_lists.specs.Laws.Rows.{no-row-stored, length-stored, one-row-stored, all-rows-stored}
 use Rattle.host_answer.proofs.write.store_processors.Goals as goal
@@ -8,26 +7,8 @@ use Rattle.host_answer.proofs.write.store_processors.Goals as goal
 pub loop-i-init : goal.loop-i-init
 loop-i-init c = no-row-stored
 
-pub offset_bounds-processors-i : goal.offset_bounds-processors-i
-offset_bounds-processors-i c = omega arith
-
-pub bounds-processors-i : goal.bounds-processors-i
-bounds-processors-i c = omega arith
-
-pub overflow_mul-i : goal.overflow_mul-i
-overflow_mul-i c = omega arith
-
-pub overflow_add-i : goal.overflow_add-i
-overflow_add-i c = omega arith
-
 pub store_processor_at-requires : goal.store_processor_at-requires
 store_processor_at-requires c = omega (arith, length-stored c.loop-i.invariant)
-
-pub overflow_add-i-in-loop-i : goal.overflow_add-i-in-loop-i
-overflow_add-i-in-loop-i c = omega arith
-
-pub loop-i-smaller : goal.loop-i-smaller
-loop-i-smaller c = omega arith
 
 pub loop-i-preserved : goal.loop-i-preserved
 loop-i-preserved c =

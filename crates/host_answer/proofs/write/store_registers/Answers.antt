@@ -1,6 +1,5 @@
 -- `host_answer::write::store_registers` meets its contract.
 use mathlib.Core.Path.{refl}
-use Prim.Native.Nat.{◌-◌}
 use native.Mathlib.Omega.{arith}
 use Rattle.host_answer.specs.Laws.Write.{row-of-one}
 use Rattle.base_lists.specs.Laws.Rows.{no-row-stored, length-stored, one-row-stored, all-rows-stored}
@@ -9,26 +8,8 @@ use Rattle.host_answer.proofs.write.store_registers.Goals as goal
 pub loop-i-init : goal.loop-i-init
 loop-i-init c = no-row-stored
 
-pub offset_bounds-registers-i : goal.offset_bounds-registers-i
-offset_bounds-registers-i c = omega arith
-
-pub bounds-registers-i : goal.bounds-registers-i
-bounds-registers-i c = omega arith
-
-pub overflow_add-out : goal.overflow_add-out
-overflow_add-out c = omega arith
-
-pub offset_bounds-out-i : goal.offset_bounds-out-i
-offset_bounds-out-i c = omega arith
-
 pub bounds-out-i : goal.bounds-out-i
 bounds-out-i c = omega (arith, length-stored c.loop-i.invariant)
-
-pub overflow_add-i : goal.overflow_add-i
-overflow_add-i c = omega arith
-
-pub loop-i-smaller : goal.loop-i-smaller
-loop-i-smaller c = omega arith
 
 pub loop-i-preserved : goal.loop-i-preserved
 loop-i-preserved c = one-row-stored (λ j. refl) c.loop-i.invariant c.loop-i-test.true (record { is = rw (row-of-one 4 c.loop-i.i) })

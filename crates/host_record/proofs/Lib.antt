@@ -1,0 +1,2 @@
+-- Theorems on the records that are lent.
+pub mod Lent
