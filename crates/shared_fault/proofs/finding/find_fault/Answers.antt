@@ -3,6 +3,7 @@ use mathlib.Core.List.{List, [], ◌∷◌}
 use mathlib.Core.Path.{◌≡◌, refl, sym, ap, ◌∙◌}
 use Prim.Native.Nat.{ℕ}
 use denote.Enum.Declared.{tag_of}
+use borrow.Enum.Refused.{opened}
 use types.Run.{OneOf, miss}
 use Rattle.base_outcome.specs.declared.refusal.Refusal.{Refusal}
 use Rattle.base_outcome.specs.declared.refusal.Refusal.TheVariants as Refusal
@@ -116,4 +117,4 @@ pub returns-in_default : goal.returns-in_default
 returns-in_default c =
     c.refused-in_default.ensures
     ∙ nobody-finding _
-    c.schedule_verdict.ensures c.in-Refused.is c.in_default.keys8
+    c.schedule_verdict.ensures c.in-Refused.is (opened c.in_default.in_default-own.keys8)
