@@ -35,6 +35,7 @@ impl Output {
 }
 
 // Answers the input of a reader that no number refuses.
+#[tactic(auto, unfolding(crate::specs::Finish::written_to, crate::specs::Finish::finished_memory))]
 fn answer_input(
     r: Reader,
     memory: &mut [u64],

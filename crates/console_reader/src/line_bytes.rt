@@ -10,6 +10,7 @@ pub(crate) struct Filled {
 }
 
 // Goes to the next line feed, or to the end of the bytes. The bytes of a line past the first 32 are not kept: it is unreadable already.
+#[tactic(auto, using(crate::proofs::Filling::filling_steps))]
 pub(crate) fn fill(line: &mut [u8; 32], begun: usize, bytes: &[u8], from: usize) -> Filled
     requires { (begun ≤ 32) × (length line.old ≡ 32) }
     ensures { LineFilled bytes.now from line.old begun line.new result }

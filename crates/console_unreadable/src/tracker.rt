@@ -103,6 +103,7 @@ fn end_line(
 }
 
 // One byte of the line with the number n.
+#[tactic(auto, unfolding(crate::specs::Tracker::byte_followed))]
 fn follow_byte(
     r: Reader,
     n: u64,

@@ -15,7 +15,8 @@ use Rattle.base_outcome.specs.Order.{or_else}
 use Rattle.exchange_jump.specs.Jump.{package_inside, package_clean, field_inside}
 use Rattle.shared_schedule.specs.Refusals.{lists_fit, jobs_listed, turns_fit, lists_verdict, every_job, all_apart, owners_verdict, schedule_verdict}
 use Rattle.console_grammar.specs.Reading.{Request, Part, readable, reading_of}
-use Rattle.console_grammar.specs.Laws.Memory.{InputMemory, input-memory}
+use Rattle.console_grammar.specs.Laws.Memory.{InputMemory}
+use Rattle.console_grammar.proofs.Memory.{input-memory}
 use Rattle.console_calls.specs.Console.{zero_record, schedule_in}
 
 -- the record that the console lends fits a memory of any length

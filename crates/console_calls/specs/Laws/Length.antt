@@ -13,7 +13,8 @@ use Rattle.shared_schedule.specs.Laws.Projection.{stints-length-back}
 use Rattle.shared_schedule.specs.Laws.Refusals.{accepted-lists, accepted-ready}
 use Rattle.shared_schedule.specs.Refusals.{schedule_verdict}
 use Rattle.shared_schedule.specs.Schedule.{schedule_end}
-use Rattle.console_grammar.specs.Laws.Grammar.{read-readable, memory-words}
+use Rattle.console_grammar.specs.Laws.Grammar.{memory-words}
+use Rattle.console_grammar.proofs.Grammar.{read-readable}
 use Rattle.console_grammar.specs.Held.{Lists, in_use, reading_at}
 use Rattle.console_grammar.specs.Reading.{Part, Request, Reading, no_line, readable, unreadable, reading_of}
 use Rattle.console_grammar.specs.declared.progress.Part as Last

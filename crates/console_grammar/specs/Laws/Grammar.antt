@@ -21,7 +21,7 @@ pub record ProgramOf (bytes : List ℕ) (q : Request) : Type 0 where
   pub readable : Readable bytes program
   pub asks : request_of program ≡ q
 
--- nor is "an empty input"
+-- "an empty input" is not read
 pub empty-unread : reading_of [] ≡ no_line
 unfolding reading_of lines_after all_to
 empty-unread = refl

@@ -12,7 +12,7 @@ use Rattle.console_grammar.specs.Held.{Lists, reading_at, held}
 use Rattle.console_grammar.specs.Store.{InputStore, input_store, store_line}
 use Rattle.console_grammar.specs.Applied.{Applied}
 use Rattle.console_grammar.specs.Laws.Entries.{entry-added, entries-full}
-use Rattle.console_grammar.specs.Laws.StoreHeld.{Holds, line-held}
+use Rattle.console_grammar.proofs.StoreHeld.{Holds, line-held}
 use Rattle.console_grammar.specs.declared.progress.Part.{Part}
 use Rattle.console_grammar.specs.declared.progress.Part.TheVariants as Last
 use Rattle.console_grammar.specs.declared.progress.Progress.{Progress}

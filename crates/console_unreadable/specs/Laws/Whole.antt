@@ -7,7 +7,7 @@ use Rattle.console_line.specs.Form.{line_of}
 use Rattle.console_line.specs.Laws.Long.{cut}
 use Rattle.console_grammar.specs.Held.{Lists, Room, in_use, keep, reading_at}
 use Rattle.console_grammar.specs.Lines.{Lines, lines, lines_after}
-use Rattle.console_grammar.specs.Reading.{Request, Reading, no_line, readable, unreadable, line_to, all_to, ended, reading_of}
+use Rattle.console_grammar.specs.Reading.{Request, Reading, no_line, readable, unreadable, line_to, all_to, reading_of}
 use Rattle.console_grammar.specs.declared.progress.Part.{Part}
 use Rattle.console_grammar.specs.declared.progress.Part.TheVariants as Last
 use Rattle.console_grammar.specs.declared.progress.Progress.{Progress}

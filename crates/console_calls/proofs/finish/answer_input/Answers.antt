@@ -3,20 +3,14 @@ use mathlib.Core.Path.{◌∙◌, sym}
 use native.Mathlib.Omega.{arith}
 use lib.Seq.{length-take-le}
 use Rattle.console_reader.specs.Laws.Feeding.{complete-is}
-use Rattle.console_calls.specs.Laws.Finish.{take_short, finish-short, finish-unreadable, finish-run}
+use Rattle.console_calls.specs.Laws.Finish.{take_short, finish-unreadable, finish-run}
 use Rattle.console_calls.proofs.finish.answer_input.Goals as goal
-
-pub returns-then-out-lt-OUTPUT_BYTES : goal.returns-then-out-lt-OUTPUT_BYTES
-returns-then-out-lt-OUTPUT_BYTES c = finish-short _ _ _ (omega (arith, c.if-out-lt-OUTPUT_BYTES.true))
-
-pub write_refused-n-requires : goal.write_refused-n-requires
-write_refused-n-requires c = omega arith
 
 pub returns-then-not-is_complete : goal.returns-then-not-is_complete
 returns-then-not-is_complete c =
     let pre = c.requires in
     finish-unreadable _ _ (sym (complete-is _ _ _ pre) ∙ sym c.is_complete.ensures ∙ c.if-not-is_complete.true) c.number.ensures
-    (omega (arith, c.if-out-lt-OUTPUT_BYTES.false)) c.write_refused-n.ensures
+    (omega arith) c.write_refused-n.ensures
 
 pub slice_bounds-run-end : goal.slice_bounds-run-end
 slice_bounds-run-end c =
@@ -46,9 +40,9 @@ slice_bounds-run-end-5 c =
 pub run-n-requires : goal.run-n-requires
 run-n-requires c =
     let pre = c.requires in
-    (take_short _ _ _ (omega (arith, pre.progress.words, pre.room.memory)) pre.progress.words, omega (arith, c.if-out-lt-OUTPUT_BYTES.false))
+    (take_short _ _ _ (omega (arith, pre.progress.words, pre.room.memory)) pre.progress.words, omega arith)
 
 pub returns : goal.returns
 returns c =
-    finish-run _ _ _ c.requires (sym c.is_complete.ensures ∙ c.if-not-is_complete.false) (omega (arith, c.if-out-lt-OUTPUT_BYTES.false))
+    finish-run _ _ _ c.requires (sym c.is_complete.ensures ∙ c.if-not-is_complete.false) (omega arith)
     c.run-n.ensures

@@ -1,5 +1,4 @@
 -- `console_reader::reader::feed_all` meets its contract.
-use mathlib.Core.Path.{◌≡◌}
 use Prim.Native.Nat.{◌-◌}
 use lib.ListN.{length}
 use Rattle.console_grammar.specs.Held.{lists}
@@ -11,10 +10,6 @@ abbrev pub invariant-loop-at : goal.invariant-loop-at
 invariant-loop-at l =
     FeedingOn l.bytes (with_line l.initial.progress l.initial.line l.initial.begun) l.initial.memory (lists l.initial.jobs l.initial.stint_jobs l.initial.stint_turns)
     l.at (with_line l.progress l.line l.begun) l.memory (lists l.jobs l.stint_jobs l.stint_turns)
-    × (length l.memory ≡ length l.initial.memory)
-    × (length l.jobs ≡ length l.initial.jobs)
-    × (length l.stint_jobs ≡ length l.initial.stint_jobs)
-    × (length l.stint_turns ≡ length l.initial.stint_turns)
 
 abbrev pub decreases-loop-at : goal.decreases-loop-at
 decreases-loop-at l =
