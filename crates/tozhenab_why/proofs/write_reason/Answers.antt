@@ -5,7 +5,7 @@ use Rattle.console_reason.specs.Laws.Text.{reason-inside}
 use Rattle.tozhenab_why.proofs.write_reason.Goals as goal
 
 pub slice_bounds-out-end : goal.slice_bounds-out-end
-slice_bounds-out-end c = reason-inside _ _ _ _ c.in-Bytes.is c.explain-o.ensures
+slice_bounds-out-end g c = reason-inside _ _ _ _ c.in-Bytes.is c.explain-o.ensures
 
 pub slice_bounds-write_all-end : goal.slice_bounds-write_all-end
-slice_bounds-write_all-end c = sym (length-take-le _ _ (reason-inside _ _ _ _ c.in-Bytes.is c.explain-o.ensures))
+slice_bounds-write_all-end g c = sym (length-take-le _ _ (reason-inside _ _ _ _ c.in-Bytes.is c.explain-o.ensures))

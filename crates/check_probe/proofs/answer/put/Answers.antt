@@ -4,4 +4,4 @@ use Rattle.word_octal.specs.Laws.Write.{length-octal}
 use Rattle.check_probe.proofs.answer.put.Goals as goal
 
 pub returns : goal.returns
-returns c = omega (arith, c.write_octal.ensures.ends, length-octal c.args.n, c.room-start.ensures)
+returns g c = omega (arith, c.write_octal.ensures.ends, length-octal c.args.n, c.room-start.ensures)

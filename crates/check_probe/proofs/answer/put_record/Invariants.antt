@@ -3,7 +3,7 @@ use Prim.Native.Nat.{◌≤◌, ◌-◌}
 use Rattle.check_probe.proofs.answer.put_record.Given as goal
 
 abbrev pub invariant-loop-i : goal.invariant-loop-i
-invariant-loop-i l = (l.i ≤ 108) × (l.next ≤ 4096)
+invariant-loop-i g l = (l.i ≤ 108) × (l.next ≤ 4096)
 
 abbrev pub decreases-loop-i : goal.decreases-loop-i
-decreases-loop-i l = 108 - l.i
+decreases-loop-i g l = 108 - l.i

@@ -4,5 +4,5 @@ use Rattle.word_octal.specs.Laws.Write.{length-octal}
 use Rattle.check_probe.proofs.answer.write.Goals as goal
 
 pub put-at-requires : goal.put-at-requires
-put-at-requires c =
+put-at-requires g c =
     omega (arith, c.write_octal-at.ensures.ends, length-octal c.args.given.refusal)
