@@ -22,4 +22,4 @@ pub returns-in-Line : goal.returns-in-Line
 returns-in-Line c = rw c.in-Line.is c.write_unreadable.ensures
 
 pub returns-in-Nothing : goal.returns-in-Nothing
-returns-in-Nothing c = rw c.in-Nothing.is (finding-wrote (in_use c.args.p c.args.memory.now (lists c.args.jobs.now c.args.stint-jobs.now c.args.stint-turns.now)) c.zero_record.ensures c.find_fault-finding.ensures c.write_finding.ensures)
+returns-in-Nothing c = rw c.in-Nothing.is (finding-wrote (in_use c.args.p c.args.memory.now (lists c.args.jobs.now c.args.stint_jobs.now c.args.stint_turns.now)) c.zero_record.ensures c.find_fault-finding.ensures c.write_finding.ensures)
