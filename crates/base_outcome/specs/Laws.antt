@@ -1,3 +1,2 @@
 -- Consequences of the definitions.
-pub mod Numbers
 pub mod Verdict

@@ -1,5 +1,4 @@
 -- Consequences of the definitions.
 -- what turns and rounds keep, and the loops over them
 pub mod Central
-pub mod Rounds
 pub mod Frame

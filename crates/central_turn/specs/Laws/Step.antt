@@ -17,7 +17,7 @@ use Rattle.central_field.specs.Address.{place_of, relative}
 use Rattle.central_apply.specs.Apply.{After, stops_outside, referred, a_set, stored_at, return_jumped, applied}
 use Rattle.central_turn.specs.Turn.{ran_at, step_of}
 use Rattle.central_apply.specs.Widths.{StateKept}
-use Rattle.central_apply.specs.Laws.Widths.{KeptAfter, apply-keeps}
+use Rattle.central_apply.proofs.Widths.{KeptAfter, apply-keeps}
 use Rattle.central_field.specs.declared.address.Bounds.{Bounds}
 use Rattle.central_field.specs.declared.address.Place.{Place}
 use Rattle.central_field.specs.declared.address.Place.TheVariants.{Inside, Outside}

@@ -5,14 +5,14 @@ use Rattle.std.proofs.Common.{sym, ap, subst, ◌∙◌, arith, lt-ltb, le-ltb, 
 use Prim.Native.Nat.{ℕ, zero, suc, ◌+◌, ◌^◌, ◌≤◌, ◌<◌}
 use Rattle.base_logic.specs.Laws.Choice.{of-cond}
 use Rattle.base_outcome.specs.Numbers.{central_stop_listed}
-use Rattle.base_outcome.specs.Laws.Numbers.{central-stop-listed}
+use Rattle.base_outcome.proofs.Numbers.{central-stop-listed}
 use Rattle.central_apply.specs.declared.apply.Step.TheVariants as Then
 use Rattle.central_apply.specs.State.{State}
 use Rattle.central_field.specs.Address.{place_of}
 use Rattle.central_apply.specs.Apply.{After}
 use Rattle.central_turn.specs.Turn.{step_of, Turn, turned, turn_end, go_on, parcels_run, word_run, fetched, turn_of}
 use Rattle.central_apply.specs.Widths.{StateKept}
-use Rattle.central_apply.specs.Laws.Widths.{KeptAfter}
+use Rattle.central_apply.proofs.Widths.{KeptAfter}
 use Rattle.central_turn.specs.Laws.Step.{Later, step_keeps, step-reaches}
 use Rattle.central_field.specs.declared.address.Bounds.{Bounds}
 use Rattle.central_field.specs.declared.address.Place.{Place}

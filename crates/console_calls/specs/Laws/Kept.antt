@@ -9,7 +9,7 @@ use Rattle.base_outcome.specs.Order.{or_else}
 use Rattle.shared_limits.specs.Limits.{most_jobs, most_stints}
 use Rattle.shared_schedule.specs.Refusals.{lists_fit, lists_verdict, owners_verdict, schedule_verdict}
 use Rattle.shared_schedule.specs.Schedule.{Schedule}
-use Rattle.shared_schedule.specs.Laws.Refusals.{lists-fit}
+use Rattle.shared_schedule.proofs.Refusals.{lists-fit}
 use Rattle.console_grammar.specs.Reading.{Request, Reading, no_line, readable, unreadable}
 use Rattle.console_grammar.specs.Held.{firsts, keep, job_entries, stint_entries}
 use Rattle.console_calls.specs.Console.{zero_record, schedule_in, printed, output_on}

@@ -10,7 +10,7 @@ use Rattle.base_outcome.specs.declared.refusal.Verdict.{Verdict}
 use Rattle.base_outcome.specs.declared.refusal.Verdict.TheVariants as Call
 use Rattle.shared_schedule.specs.Isolation.{ScheduleAccepted}
 use Rattle.shared_schedule.specs.Laws.Projection.{stints-length-back}
-use Rattle.shared_schedule.specs.Laws.Refusals.{accepted-lists, accepted-ready}
+use Rattle.shared_schedule.proofs.Refusals.{accepted-lists, accepted-ready}
 use Rattle.shared_schedule.specs.Refusals.{schedule_verdict}
 use Rattle.shared_schedule.specs.Schedule.{schedule_end}
 use Rattle.console_grammar.specs.Laws.Grammar.{memory-words}

@@ -12,7 +12,7 @@ use Rattle.central_record.specs.declared.record.Central.{Central}
 use Rattle.shared_limits.specs.Limits.{most_stints}
 use Rattle.shared_schedule.specs.Refusals.{schedule_verdict}
 use Rattle.shared_schedule.specs.Schedule.{Schedule, schedule_end, schedule_of}
-use Rattle.shared_schedule.specs.Laws.Refusals.{ListsAccepted, accepted-lists}
+use Rattle.shared_schedule.proofs.Refusals.{ListsAccepted, accepted-lists}
 use Rattle.shared_calls.specs.Answer.{ScheduleAnswered, schedule_answer_to, schedule_answer_by, schedule_answer}
 use Rattle.shared_calls.specs.Laws.Isolation.{same-verdict, one_each}
 use Rattle.shared_calls.specs.declared.call.ScheduleAnswer.{ScheduleAnswer}

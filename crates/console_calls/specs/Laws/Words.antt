@@ -7,7 +7,7 @@ use Rattle.central_record.specs.Laws.Record.{word_width}
 use Rattle.exchange_jump.specs.Accepted.{HostAccepted}
 use Rattle.shared_schedule.specs.Isolation.{ScheduleAccepted}
 use Rattle.shared_schedule.specs.Laws.Projection.{stints-keep}
-use Rattle.shared_schedule.specs.Laws.Refusals.{accepted-lists, accepted-ready}
+use Rattle.shared_schedule.proofs.Refusals.{accepted-lists, accepted-ready}
 use Rattle.shared_schedule.specs.Laws.Stint.{still-ready}
 use Rattle.shared_schedule.specs.Schedule.{Schedule, schedule_end}
 use Rattle.console_line.specs.Form.{line_of}

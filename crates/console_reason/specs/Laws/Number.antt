@@ -2,7 +2,7 @@
 use Rattle.std.proofs.lemmas.Bool.{false≢true}
 use Rattle.std.specs.Prelude.{List, ◌++◌, ◌≡◌, refl, ℕ}
 use Rattle.std.proofs.Common.{append-nil, sym, ap, ◌∙◌, arith}
-use Rattle.base_outcome.specs.Laws.Numbers.{verdicts-distinct}
+use Rattle.base_outcome.proofs.Numbers.{verdicts-distinct}
 use Rattle.base_outcome.specs.Numbers.{refusal_number, verdict_number}
 use Rattle.base_outcome.specs.declared.refusal.Refusal.TheVariants as Refusal
 use Rattle.base_outcome.specs.declared.refusal.Verdict.{Verdict}
@@ -16,7 +16,7 @@ use Rattle.console_unreadable.specs.Unreadable.{unreadable_in}
 use Rattle.console_unreadable.specs.declared.tracker.Found.{Found}
 use Rattle.console_unreadable.specs.declared.tracker.Found.TheVariants.{Nothing, Line}
 use Rattle.shared_fault.specs.Fault.{finding_of}
-use Rattle.shared_fault.specs.Laws.Finding.{accepted-names-nobody}
+use Rattle.shared_fault.proofs.Finding.{accepted-names-nobody}
 use Rattle.shared_schedule.specs.Refusals.{schedule_verdict}
 use Rattle.shared_schedule.specs.Schedule.{Schedule}
 use Rattle.console_reason.specs.Reason.{reason_on, reason_of}

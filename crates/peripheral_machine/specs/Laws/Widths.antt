@@ -5,7 +5,7 @@ use Rattle.std.proofs.Common.{sym, ◌∙◌, arith, length-set, get_or-set_same
 use borrow.Author.Tests.{ltb-true, lt-ltb, le-ltb}
 use Rattle.std.proofs.lemmas.List.{set-get_or}
 use Rattle.base_outcome.specs.Numbers.{peripheral_stop_number, peripheral_stop_listed}
-use Rattle.base_outcome.specs.Laws.Numbers.{peripheral-stop-listed}
+use Rattle.base_outcome.proofs.Numbers.{peripheral-stop-listed}
 use Rattle.base_outcome.specs.declared.stop.PeripheralStop.{PeripheralStop}
 use Rattle.peripheral_channel.specs.Laws.Width.{ChannelFits}
 use Rattle.peripheral_channel.specs.declared.record.Channel.{Channel}

@@ -2,7 +2,7 @@
 use Rattle.std.specs.Prelude.{◌≡◌}
 use Rattle.base_outcome.specs.declared.refusal.Verdict.TheVariants as Call
 use Rattle.shared_schedule.specs.Isolation.{ScheduleAccepted}
-use Rattle.shared_schedule.specs.Laws.Refusals.{accepted-lists, accepted-ready}
+use Rattle.shared_schedule.proofs.Refusals.{accepted-lists, accepted-ready}
 use Rattle.shared_schedule.specs.Schedule.{Schedule, schedule_end}
 use Rattle.shared_calls.specs.Answer.{MayRun, StintsMemory, in_arrays, schedule_answer_to, schedule_answer_by}
 

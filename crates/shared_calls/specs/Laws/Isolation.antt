@@ -9,8 +9,8 @@ use Rattle.base_outcome.specs.declared.refusal.Verdict.{Verdict}
 use Rattle.central_record.specs.declared.record.Central.{Central}
 use Rattle.single_stint.specs.Stint.{stint_of}
 use Rattle.shared_schedule.specs.Isolation.{ScheduleAccepted, start, package_in, field_in, of_job, total, last_of, NoneButLast, Alike, OutsideJobs}
-use Rattle.shared_schedule.specs.Laws.Isolation.{isolation, rest-kept, record-kept}
-use Rattle.shared_schedule.specs.Laws.Refusals.{accepted-lists}
+use Rattle.shared_schedule.proofs.Isolation.{isolation, rest-kept, record-kept}
+use Rattle.shared_schedule.proofs.Refusals.{accepted-lists}
 use Rattle.shared_schedule.specs.Refusals.{schedule_verdict}
 use Rattle.shared_schedule.specs.Schedule.{Schedule, stints_of, schedule_end}
 use Rattle.shared_calls.specs.Answer.{schedule_answer_by, schedule_answer}

@@ -13,7 +13,7 @@ use Rattle.whole_record.specs.declared.record.MachineRecord.{MachineRecord}
 use Rattle.whole_rounds.specs.Rounds.{rounds_ran, rounds_of}
 use Rattle.whole_processors.specs.Processors.{processor_turned, processors_turned}
 use Rattle.whole_processors.specs.Laws.Processors.{processor-keeps, own-size, one-processor}
-use Rattle.whole_rounds.specs.Laws.Rounds.{run-keeps}
+use Rattle.whole_rounds.proofs.Rounds.{run-keeps}
 use Rattle.whole_calls.specs.Call.{Left, left, left_by, left_after, machine_answered, machine_answer_by}
 
 -- the answer of a call that is carried out, and of one that is refused

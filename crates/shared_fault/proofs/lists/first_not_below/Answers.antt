@@ -3,7 +3,7 @@ use Prim.Native.Nat.{◌-◌}
 use native.Mathlib.Omega.{arith}
 use borrow.Author.Tests.{lt-ltb, le-ltb}
 use Rattle.base_lists.specs.Laws.Indexed.{none_yet, one_more}
-use Rattle.shared_fault.specs.Laws.Search.{found, none_found}
+use Rattle.shared_fault.proofs.Search.{found, none_found}
 use Rattle.shared_fault.proofs.lists.first_not_below.Goals as goal
 
 pub loop-i-init : goal.loop-i-init

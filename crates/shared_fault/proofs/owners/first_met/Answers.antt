@@ -4,7 +4,7 @@ use Prim.Native.Nat.{◌-◌}
 use native.Mathlib.Omega.{arith}
 use Rattle.base_lists.specs.Laws.Indexed.{none_yet, one_more}
 use Rattle.shared_schedule.specs.Refusals.{jobs_apart}
-use Rattle.shared_fault.specs.Laws.Search.{found, none_found}
+use Rattle.shared_fault.proofs.Search.{found, none_found}
 use Rattle.shared_fault.proofs.owners.first_met.Goals as goal
 
 pub loop-j-init : goal.loop-j-init

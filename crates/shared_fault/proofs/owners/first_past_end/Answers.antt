@@ -4,7 +4,7 @@ use Prim.Native.Nat.{◌-◌}
 use native.Mathlib.Omega.{arith}
 use Rattle.base_lists.specs.Laws.Indexed.{none_yet, one_more}
 use Rattle.exchange_jump.specs.Jump.{package_inside}
-use Rattle.shared_fault.specs.Laws.Search.{found, none_found}
+use Rattle.shared_fault.proofs.Search.{found, none_found}
 use Rattle.shared_fault.proofs.owners.first_past_end.Goals as goal
 
 pub loop-i-init : goal.loop-i-init

@@ -7,7 +7,7 @@ use mathlib.Core.Bool.{not}
 use Rattle.base_lists.specs.Laws.Indexed.{none_yet, one_more, all-passed, one-fails}
 use Rattle.peripheral_machine.specs.declared.numbers.Processor.{Processor}
 use Rattle.whole_rounds.specs.Rounds.{is_stopped}
-use Rattle.whole_rounds.specs.Laws.Rounds.{central-runs, others-decide}
+use Rattle.whole_rounds.proofs.Rounds.{central-runs, others-decide}
 use Rattle.whole_rounds.proofs.round.all_stopped.Goals as goal
 
 pub returns-then-s-eq0 : goal.returns-then-s-eq0

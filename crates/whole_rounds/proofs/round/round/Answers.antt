@@ -1,6 +1,6 @@
 -- `whole_rounds::round::round` meets its contract.
 use Rattle.peripheral_machine.specs.Machine.{machine, central_side}
-use Rattle.whole_rounds.specs.Laws.Rounds.{all-ready, after_kept, clock-kept, round_is}
+use Rattle.whole_rounds.proofs.Rounds.{all-ready, after_kept, clock-kept, round_is}
 use Rattle.whole_rounds.proofs.round.round.Goals as goal
 
 pub processors_turn-requires : goal.processors_turn-requires

@@ -3,7 +3,7 @@ use mathlib.Core.Path.{sym, ◌∙◌}
 use Prim.Native.Nat.{◌-◌}
 use native.Mathlib.Omega.{arith}
 use Rattle.peripheral_machine.specs.Machine.{machine}
-use Rattle.whole_rounds.specs.Laws.Rounds.{rounds-going-start, rounds-going-stop, rounds-going-on, rounds-going-end}
+use Rattle.whole_rounds.proofs.Rounds.{rounds-going-start, rounds-going-stop, rounds-going-on, rounds-going-end}
 use Rattle.whole_rounds.proofs.round.run.Goals as goal
 
 pub loop-made-init : goal.loop-made-init

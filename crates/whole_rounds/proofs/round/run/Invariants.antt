@@ -1,7 +1,7 @@
 -- `whole_rounds::round::run` meets its contract.
 use Prim.Native.Nat.{◌-◌}
 use Rattle.peripheral_machine.specs.Machine.{machine}
-use Rattle.whole_rounds.specs.Laws.Rounds.{RoundsGoing}
+use Rattle.whole_rounds.proofs.Rounds.{RoundsGoing}
 use Rattle.whole_rounds.proofs.round.run.Given as goal
 
 abbrev pub invariant-loop-made : goal.invariant-loop-made

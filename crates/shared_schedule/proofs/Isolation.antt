@@ -14,8 +14,8 @@ use Rattle.single_stint.specs.Laws.Field.{field-kept}
 use Rattle.shared_schedule.specs.Isolation.{ScheduleAccepted, start, end, package_address, field_in, of_job, turns_asked, NoneButLast, StopsInLastOnly, Isolation, RestKept, RecordKept}
 use Rattle.shared_schedule.specs.Job.{Job, job_at, JobStint, job_stint, JobEnd, seen_by_job, own_stints}
 use Rattle.shared_schedule.specs.Laws.Projection.{projection, stints-record-back, stints-length-back, bounds-back, stints-word-back}
-use Rattle.shared_schedule.specs.Laws.Refusals.{accepted-lists, accepted-ready}
-use Rattle.shared_schedule.specs.Laws.Sum.{JobFits, total_of, stints-sum}
+use Rattle.shared_schedule.proofs.Refusals.{accepted-lists, accepted-ready}
+use Rattle.shared_schedule.proofs.Sum.{JobFits, total_of, stints-sum}
 use Rattle.shared_schedule.specs.Ready.{Ready}
 use Rattle.shared_schedule.specs.Schedule.{Schedule}
 

@@ -4,9 +4,9 @@ use Rattle.std.proofs.Common.{sym, arith, lit<}
 use Rattle.std.proofs.Math.Nat.{add-zero}
 use Rattle.shared_limits.specs.Limits.{most_jobs}
 use Rattle.shared_schedule.specs.Isolation.{ScheduleAccepted, package_address, of_job, total, turns_asked, NoneButLast, StopsInLastOnly, EndsAlike}
-use Rattle.shared_schedule.specs.Laws.Isolation.{isolation}
+use Rattle.shared_schedule.proofs.Isolation.{isolation}
 use Rattle.shared_schedule.specs.Laws.OneJob.{one_job, one-accepted}
-use Rattle.shared_schedule.specs.Laws.Refusals.{accepted-ready}
+use Rattle.shared_schedule.proofs.Refusals.{accepted-ready}
 use Rattle.shared_schedule.specs.Laws.Stint.{stint-may-run}
 use Rattle.shared_schedule.specs.Schedule.{Schedule, stints_of}
 

@@ -9,7 +9,7 @@ use Rattle.shared_schedule.specs.Refusals.{schedule_verdict}
 use Rattle.shared_schedule.specs.Schedule.{Schedule}
 use Rattle.shared_fault.specs.Fault.{fault_by, finding_to, finding_of}
 use Rattle.shared_fault.specs.Search.{first_failing}
-use Rattle.shared_fault.specs.Laws.Search.{First, first-failing}
+use Rattle.shared_fault.proofs.Search.{First, first-failing}
 use Rattle.shared_fault.specs.declared.fault.Fault.{Fault}
 use Rattle.shared_fault.specs.declared.fault.Fault.TheVariants as Fault
 

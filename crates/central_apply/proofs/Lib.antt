@@ -1,0 +1,2 @@
+-- Theorems that rest on definitions which edits change.
+pub mod Widths

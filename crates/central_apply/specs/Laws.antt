@@ -1,2 +1,0 @@
--- Consequences of the definitions.
-pub mod Widths
