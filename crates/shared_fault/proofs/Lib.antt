@@ -1,5 +1,5 @@
 -- Theorems that rest on definitions which edits change.
-pub mod Finding
-pub mod Lists
-pub mod Owners
+pub mod Findings
+pub mod ListFaults
+pub mod OwnerFaults
 pub mod Search

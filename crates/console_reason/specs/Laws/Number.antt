@@ -16,7 +16,7 @@ use Rattle.console_unreadable.specs.Unreadable.{unreadable_in}
 use Rattle.console_unreadable.specs.declared.tracker.Found.{Found}
 use Rattle.console_unreadable.specs.declared.tracker.Found.TheVariants.{Nothing, Line}
 use Rattle.shared_fault.specs.Fault.{finding_of}
-use Rattle.shared_fault.proofs.Finding.{accepted-names-nobody}
+use Rattle.shared_fault.proofs.Findings.{accepted-names-nobody}
 use Rattle.shared_schedule.specs.Refusals.{schedule_verdict}
 use Rattle.shared_schedule.specs.Schedule.{Schedule}
 use Rattle.console_reason.specs.Reason.{reason_on, reason_of}

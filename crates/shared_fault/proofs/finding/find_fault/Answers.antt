@@ -14,8 +14,8 @@ use Rattle.single_calls.specs.Turns.{most_turns}
 use Rattle.shared_schedule.specs.Refusals.{schedule_verdict}
 use Rattle.shared_schedule.specs.Schedule.{Schedule}
 use Rattle.shared_fault.specs.Fault.{fault_by, finding_to, finding_of}
-use Rattle.shared_fault.proofs.Finding.{refused_as, refused-finding, accepted-names-nobody}
-use Rattle.shared_fault.proofs.Owners.{stray-told, field_told, overlap-told}
+use Rattle.shared_fault.proofs.Findings.{refused_as, refused-finding, accepted-names-nobody}
+use Rattle.shared_fault.proofs.OwnerFaults.{stray-told, field_told, overlap-told}
 use Rattle.shared_fault.proofs.Search.{first-below-suc}
 use Rattle.shared_fault.specs.declared.fault.Fault.TheVariants as Fault
 use Rattle.shared_fault.proofs.finding.find_fault.Goals as goal

@@ -1,5 +1,5 @@
 -- `shared_fault::owners::overlap_fault` meets its contract.
-use Rattle.shared_fault.proofs.Owners.{first-pair}
+use Rattle.shared_fault.proofs.OwnerFaults.{first-pair}
 use Rattle.shared_fault.proofs.owners.overlap_fault.Goals as goal
 
 pub first_met-j-requires : goal.first_met-j-requires

@@ -14,7 +14,7 @@ use Rattle.shared_limits.specs.Limits.{most_jobs, most_stints}
 use Rattle.shared_schedule.specs.Refusals.{lists_fit, jobs_listed, turns_fit, schedule_verdict}
 use Rattle.shared_schedule.specs.Schedule.{Schedule}
 use Rattle.shared_fault.specs.Fault.{length_fault, finding_of}
-use Rattle.shared_fault.proofs.Finding.{NamesFirst, names-first}
+use Rattle.shared_fault.proofs.Findings.{NamesFirst, names-first}
 use Rattle.shared_fault.specs.Laws.Order.{schedule-told}
 use Rattle.shared_fault.specs.declared.fault.Fault.{Fault}
 use Rattle.shared_fault.specs.declared.fault.Fault.TheVariants as Fault

@@ -12,7 +12,7 @@ use Rattle.shared_schedule.specs.Refusals.{every_job, package_meets_field, packa
 use Rattle.shared_schedule.specs.Schedule.{Schedule}
 use Rattle.shared_verdict.specs.Owners.{Inside}
 use Rattle.shared_fault.specs.Fault.{pair_fault, first_not_apart, first_met, finding_of}
-use Rattle.shared_fault.proofs.Finding.{NamesFirst, names-first}
+use Rattle.shared_fault.proofs.Findings.{NamesFirst, names-first}
 use Rattle.shared_fault.specs.Laws.Order.{schedule-told}
 use Rattle.shared_fault.proofs.Search.{First, first-failing}
 use Rattle.shared_fault.specs.declared.fault.Fault.{Fault}
