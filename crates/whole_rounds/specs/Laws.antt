@@ -1,4 +1,3 @@
 -- Consequences of the definitions.
--- what turns and rounds keep, and the loops over them
+-- what a turn of the central processor keeps
 pub mod Central
-pub mod Frame
