@@ -1,4 +1,4 @@
--- The widths that the functions ask for. That effects keep them is proved in `Laws.Widths`, and that turns do in `central_turn`.
+-- The widths that the functions ask for. That effects keep them is proved in proofs/Widths.antt, and that turns do in `central_turn`.
 use Rattle.std.specs.Prelude.{List, ◌≡◌, ℕ, ◌+◌, ◌^◌, ◌≤◌, ◌<◌, get_or, length}
 use Rattle.central_registers.specs.Widths.{Wide}
 use Rattle.central_apply.specs.State.{State}

@@ -41,6 +41,7 @@ fn stops_on_indefinite(em: u64, x: u64, y: u64) -> bool
 }
 
 // The effect e, unless an operand stops the code, with 8 before 7. An effect writes nothing, so it may be worked out before the test.
+#[tactic(auto, unfolding(crate::specs::Floating::unless_stopped))]
 fn unless_stopped(em: u64, x: u64, y: u64, e: CentralEffect) -> CentralEffect
     ensures { result ≡ unless_stopped em x y e }
 {

@@ -45,6 +45,7 @@ fn index_sum(base: u64, index: u64) -> u64
 }
 
 // m + (d), or m alone.
+#[tactic(auto, unfolding(crate::specs::Addresses::indexed))]
 pub fn indexed(m: &[u16], p: u64, d: u64) -> u64
     requires memory { Memory m.now }
     requires p_bound { p < 2 ^ 12 }

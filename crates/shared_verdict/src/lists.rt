@@ -34,6 +34,7 @@ fn turns_fit(ts: &[u64]) -> bool
 }
 
 // Numbers 6, 7 and 8, lowest first.
+#[tactic(auto, unfolding(shared_schedule::specs::Refusals::lists_verdict))]
 pub(crate) fn lists_verdict(jobs: &[u64], js: &[u64], ts: &[u64]) -> Verdict
     ensures { result ≡ lists_verdict jobs.now js.now ts.now }
 {

@@ -110,6 +110,7 @@ fn all_apart(m: &[u64], jobs: &[u64]) -> bool
 }
 
 // Numbers 9 to 12, lowest first.
+#[tactic(auto, unfolding(shared_schedule::specs::Refusals::owners_verdict))]
 pub(crate) fn owners_verdict(m: &[u64], jobs: &[u64]) -> Verdict
     requires { length m.now ≤ 131072 }
     ensures { result ≡ owners_verdict m.now jobs.now }
