@@ -5,3 +5,4 @@ pub mod Parts
 pub mod Overlap
 pub mod Written
 pub mod Rows
+pub mod Tested

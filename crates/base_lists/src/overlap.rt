@@ -8,14 +8,5 @@ pub fn shares_word(a: u64, n: u64, b: u64, k: u64) -> bool
     requires { (a + n ≤ 131072) × (b + k ≤ 131072) }
     ensures { result ≡ shares_word a n b k }
 {
-    if n == 0 {
-        return false;
-    }
-    if k == 0 {
-        return false;
-    }
-    if b + k <= a {
-        return false;
-    }
-    b < a + n
+    n != 0 && k != 0 && a < b + k && b < a + n
 }

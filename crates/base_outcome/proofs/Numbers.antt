@@ -1,14 +1,13 @@
 -- No two refusals have one number, nor do two verdicts, nor two stops of one processor; a record may hold the numbers of its processor's stops, 0,
 -- and no other.
-use Rattle.std.specs.Prelude.{true, cond, List, [], ◌∷◌, ◌⊎◌, ◌≡◌, refl, ℕ, zero, suc, ◌+◌, ◌-◌, ◌≤◌, ◌<◌, eqb, get_or}
+use Rattle.std.specs.Prelude.{true, cond, List, [], ◌∷◌, ◌⊎◌, ◌≡◌, refl, ℕ, zero, suc, ◌+◌, ◌-◌, ◌≤◌, ◌<◌, eqb, get_or, Ok, Err}
 use Rattle.std.proofs.Common.{inl, inr, ⊎_elim, sym, ap, ◌∙◌, arith, leb-true, eqb-true}
 use Rattle.base_lists.specs.Indexed.{all_below}
 use Rattle.base_lists.specs.Laws.Indexed.{all-at}
 use Rattle.base_logic.specs.Laws.Tests.{both, one_of}
 use Rattle.base_outcome.specs.declared.refusal.Refusal.{Refusal}
 use Rattle.base_outcome.specs.declared.refusal.Refusal.TheVariants as Refused
-use Rattle.base_outcome.specs.declared.refusal.Verdict.{Verdict}
-use Rattle.base_outcome.specs.declared.refusal.Verdict.TheVariants as Call
+use Rattle.base_outcome.specs.Verdict.{Verdict}
 use Rattle.base_outcome.specs.declared.stop.CentralStop.{CentralStop}
 use Rattle.base_outcome.specs.declared.stop.CentralStop.TheVariants as Central
 use Rattle.base_outcome.specs.declared.stop.PeripheralStop.{PeripheralStop}
@@ -79,10 +78,10 @@ refusal-not-0 r e =
 
 -- so a number settles the verdict
 pub verdicts-distinct : (v w : Verdict) → verdict_number v ≡ verdict_number w → v ≡ w
-verdicts-distinct Call.Accepted Call.Accepted e = refl
-verdicts-distinct Call.Accepted (Call.Refused s) e = refusal-not-0 s (sym e)
-verdicts-distinct (Call.Refused r) Call.Accepted e = refusal-not-0 r e
-verdicts-distinct (Call.Refused r) (Call.Refused s) e = ap Call.Refused (refusals-distinct r s e)
+verdicts-distinct (Ok _) (Ok _) e = refl
+verdicts-distinct (Ok _) (Err s) e = refusal-not-0 s (sym e)
+verdicts-distinct (Err r) (Ok _) e = refusal-not-0 r e
+verdicts-distinct (Err r) (Err s) e = ap Err (refusals-distinct r s e)
 
 abbrev central_stops : List CentralStop
 central_stops = Central.Halt ∷ Central.OperandOutside ∷ Central.FetchOutside ∷ Central.UnfitCode ∷ Central.LastParcel ∷ []

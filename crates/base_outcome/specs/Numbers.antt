@@ -1,11 +1,10 @@
 -- The number that document 01 gives to each refusal ("Who can be turned down") and each stop ("Central turn", "Peripheral turn"), and document 02
 -- to stops 7 and 8.
 -- "Where an answer is an enum, a definition tells you this paper's number and values for each of its cases. The promises use that definition."
-use Rattle.std.specs.Prelude.{Bool, ◌&&◌, ◌||◌, ℕ, eqb, leb}
+use Rattle.std.specs.Prelude.{Bool, ◌&&◌, ◌||◌, ℕ, eqb, leb, Ok, Err}
 use Rattle.base_outcome.specs.declared.refusal.Refusal.{Refusal}
 use Rattle.base_outcome.specs.declared.refusal.Refusal.TheVariants as Refused
-use Rattle.base_outcome.specs.declared.refusal.Verdict.{Verdict}
-use Rattle.base_outcome.specs.declared.refusal.Verdict.TheVariants as Call
+use Rattle.base_outcome.specs.Verdict.{Verdict}
 use Rattle.base_outcome.specs.declared.stop.CentralStop.{CentralStop}
 use Rattle.base_outcome.specs.declared.stop.CentralStop.TheVariants as Central
 use Rattle.base_outcome.specs.declared.stop.PeripheralStop.{PeripheralStop}
@@ -43,8 +42,8 @@ refusal_number Refused.UnreadableLine = 16
 
 -- 0 for a call that meets no refusal
 abbrev pub verdict_number : Verdict → ℕ
-verdict_number Call.Accepted = 0
-verdict_number (Call.Refused r) = refusal_number r
+verdict_number (Ok _) = 0
+verdict_number (Err r) = refusal_number r
 
 abbrev pub central_stop_number : CentralStop → ℕ
 -- 1 code 00

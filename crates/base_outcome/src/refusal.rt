@@ -1,73 +1,47 @@
-// Refusals 1 to 16, and the verdict on a call.
+// Refusals 1 to 16, and the number of a verdict. A verdict on a call is a `Result<(), Refusal>`.
 ghost use Rattle.std.specs.Prelude.{◌≡◌};
 ghost use Rattle.base_outcome.specs.Numbers.{refusal_number, verdict_number};
 
 // Why a call is not carried out.
-#[derive(Clone, Copy)]
+#[derive(Clone, Copy, Debug, PartialEq, Eq)]
 pub enum Refusal {
     // The host's: what it lends.
-    CentralLength,
-    PeripheralLength,
-    CentralWord,
-    PeripheralWord,
-    RecordValue,
+    CentralLength = 1,
+    PeripheralLength = 2,
+    CentralWord = 3,
+    PeripheralWord = 4,
+    RecordValue = 5,
     // The schedule writer's.
-    ListLength,
-    UnlistedJob,
-    TooManyTurns,
+    ListLength = 6,
+    UnlistedJob = 7,
+    TooManyTurns = 8,
     // The package owner's.
-    PackagePastEnd,
-    StrayBits,
-    FieldPastEnd,
-    SharedWord,
+    PackagePastEnd = 9,
+    StrayBits = 10,
+    FieldPastEnd = 11,
+    SharedWord = 12,
     // The device's.
-    DeviceWord,
-    PutUnmet,
-    TakeUnmet,
+    DeviceWord = 13,
+    PutUnmet = 14,
+    TakeUnmet = 15,
     // The console's.
-    UnreadableLine,
+    UnreadableLine = 16,
 }
 
 impl Refusal {
     pub fn number(self) -> u64
         ensures { result ≡ refusal_number self }
     {
-        match self {
-            Refusal::CentralLength => 1,
-            Refusal::PeripheralLength => 2,
-            Refusal::CentralWord => 3,
-            Refusal::PeripheralWord => 4,
-            Refusal::RecordValue => 5,
-            Refusal::ListLength => 6,
-            Refusal::UnlistedJob => 7,
-            Refusal::TooManyTurns => 8,
-            Refusal::PackagePastEnd => 9,
-            Refusal::StrayBits => 10,
-            Refusal::FieldPastEnd => 11,
-            Refusal::SharedWord => 12,
-            Refusal::DeviceWord => 13,
-            Refusal::PutUnmet => 14,
-            Refusal::TakeUnmet => 15,
-            Refusal::UnreadableLine => 16,
-        }
+        self as u64
     }
 }
 
-// What becomes of a call.
-#[derive(Clone, Copy)]
-pub enum Verdict {
-    Accepted,
-    Refused(Refusal),
-}
-
-impl Verdict {
-    // 0 where the call is carried out.
-    pub fn number(self) -> u64
-        ensures { result ≡ verdict_number self }
-    {
-        match self {
-            Verdict::Accepted => 0,
-            Verdict::Refused(r) => r.number(),
-        }
+// 0 where the call is carried out.
+pub fn verdict_number(verdict: Result<(), Refusal>) -> u64
+    ensures { result ≡ verdict_number verdict }
+{
+    match verdict {
+        Ok(()) => 0,
+        Err(refusal) => refusal.number(),
     }
 }

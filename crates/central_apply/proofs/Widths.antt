@@ -1,5 +1,5 @@
 -- Effects keep the widths of registers and field, the field's length, and B0.
-use Rattle.std.specs.Prelude.{List, ℕ, ◌^◌, ◌<◌, eqb, ltb, set}
+use Rattle.std.specs.Prelude.{List, ℕ, ◌^◌, ◌<◌, eqb, ltb, set, Option, Some, None}
 use Rattle.std.proofs.Common.{◌∙◌, arith, lit<, length-set}
 use Rattle.base_logic.specs.Laws.Choice.{of-cond}
 use Rattle.central_registers.specs.Registers.{set_a}
@@ -13,8 +13,7 @@ use Rattle.central_field.specs.Address.{place_of, relative}
 use Rattle.central_apply.specs.Apply.{After, stops_outside, referred, a_set, stored_at, return_jumped, applied}
 use Rattle.central_apply.specs.Widths.{Words, StateKept}
 use Rattle.central_field.specs.declared.address.Bounds.{Bounds}
-use Rattle.central_field.specs.declared.address.Place.{Place}
-use Rattle.central_field.specs.declared.address.Place.TheVariants.{Inside, Outside}
+use Rattle.central_field.specs.declared.address.Absolute.{Absolute}
 
 word_set : (f : List ℕ) (i v : ℕ) → v < 2 ^ 60 → Words f → Words (set f i v)
 word_set f i v h w = record { word = λ j. set-has (λ (x : ℕ). x < 2 ^ 60) f i j v h (w.word j) }
@@ -31,12 +30,12 @@ module _ {n : ℕ} {s : State} (k : StateKept n s) where
 abbrev pub KeptAfter : ℕ → After → Type 0
 KeptAfter n a = StateKept n a.state
 
-refer-keeps : (n : ℕ) (s : State) (b : Bounds) (i : ℕ) (p : Place) (next : ℕ) → StateKept n s → KeptAfter n (referred s b i p next)
+refer-keeps : (n : ℕ) (s : State) (b : Bounds) (i : ℕ) (p : Option Absolute) (next : ℕ) → StateKept n s → KeptAfter n (referred s b i p next)
 unfolding referred
-refer-keeps n s b i (Inside a) next k =
+refer-keeps n s b i (Some a) next k =
     of-cond (KeptAfter n) (ltb i 6) (λ e. registers-kept k (x-set s.registers i _ (k.words.word _) k.wide))
     (λ e. field-kept k _ _ (k.wide.long _))
-refer-keeps n s b i Outside next k =
+refer-keeps n s b i None next k =
     of-cond (KeptAfter n) (stops_outside b) (λ e. k)
     (λ e. of-cond (KeptAfter n) (ltb i 6) (λ e. registers-kept k (x-set s.registers i 0 (lit< tt) k.wide)) (λ e. k))
 
@@ -47,10 +46,10 @@ set-a-keeps n s b i v next l h k =
     = registers-kept k (short-set s.registers i v (λ e. omega arith) h k.wide) in
     of-cond (KeptAfter n) (eqb i 0) (λ e. set-kept) (λ e. refer-keeps n _ b i (place_of b (relative v)) next set-kept)
 
-stored-keeps : (n : ℕ) (s : State) (b : Bounds) (k w : ℕ) (p : Place) → w < 2 ^ 60 → StateKept n s
+stored-keeps : (n : ℕ) (s : State) (b : Bounds) (k w : ℕ) (p : Option Absolute) → w < 2 ^ 60 → StateKept n s
     → StateKept n (state s.registers (stored_at s.field b k w p).field)
-stored-keeps n s b k w (Inside a) h kept = field-kept kept _ w h
-stored-keeps n s b k w Outside h kept = kept
+stored-keeps n s b k w (Some a) h kept = field-kept kept _ w h
+stored-keeps n s b k w None h kept = kept
 
 pub apply-keeps : (n : ℕ) (s : State) (b : Bounds) (e : CentralEffect) (next : ℕ) → CentralSound e → StateKept n s → KeptAfter n (applied s b e next)
 unfolding applied return_jumped

@@ -1,5 +1,5 @@
 -- What an effect does to registers and field, and what follows it.
-use Rattle.std.specs.Prelude.{Bool, cond, List, ℕ, ◌+◌, eqb, ltb, get_or, set}
+use Rattle.std.specs.Prelude.{Bool, cond, List, ℕ, ◌+◌, eqb, ltb, get_or, set, Option, Some, None}
 use Rattle.base_outcome.specs.declared.stop.CentralStop.TheVariants as Because
 use Rattle.central_registers.specs.Registers.{x_of, set_a, set_b, set_x}
 use Rattle.central_effect.specs.Floating.{em_set}
@@ -9,9 +9,8 @@ use Rattle.central_apply.specs.declared.apply.Step.TheVariants as Then
 use Rattle.central_apply.specs.State.{State, state}
 use Rattle.central_field.specs.Address.{place_of, relative, index_of}
 use Rattle.central_field.specs.declared.address.Bounds.{Bounds}
-use Rattle.central_field.specs.declared.address.Place.{Place}
-use Rattle.central_field.specs.declared.address.Place.TheVariants.{Inside, Outside}
 use Rattle.central_apply.specs.declared.apply.Step.{Step}
+use Rattle.central_field.specs.declared.address.Absolute.{Absolute}
 
 -- the state after an effect, and the step that follows
 pub record After : Type 0 where
@@ -27,12 +26,12 @@ stops_outside b = em_set b.em 12
 
 -- "Every setting of A1 to A5 reads into X1 to X5, and of A6, A7 stores X6, X7 ... Outside the field without the EM bit, a read gives zero
 -- and a store is dropped; with it, X and memory keep their values."
-unfoldable pub referred : State → Bounds → ℕ → Place → ℕ → After
-referred s b i (Inside a) n =
+unfoldable pub referred : State → Bounds → ℕ → Option Absolute → ℕ → After
+referred s b i (Some a) n =
     cond (ltb i 6) (after (set_x s.registers i (get_or s.field (index_of b a) 0)) s.field (Then.Next n))
     (after s.registers (set s.field (index_of b a) (x_of s.registers i)) (Then.Next n))
 -- Stop 2: "operand outside the field with EM bit 010000".
-referred s b i Outside n =
+referred s b i None n =
     cond (stops_outside b) (after s.registers s.field (Then.Stop Because.OperandOutside))
     (cond (ltb i 6) (after (set_x s.registers i 0) s.field (Then.Next n)) (after s.registers s.field (Then.Next n)))
 
@@ -50,9 +49,9 @@ pub record Stored : Type 0 where
 abbrev pub stored : List ℕ → Step → Stored
 stored f s = record { field = f; step = s }
 
-abbrev pub stored_at : List ℕ → Bounds → ℕ → ℕ → Place → Stored
-stored_at f b k w (Inside a) = stored (set f (index_of b a) w) (Then.Branch (k + 1))
-stored_at f b k w Outside = stored f (Then.Stop Because.FetchOutside)
+abbrev pub stored_at : List ℕ → Bounds → ℕ → ℕ → Option Absolute → Stored
+stored_at f b k w (Some a) = stored (set f (index_of b a) w) (Then.Branch (k + 1))
+stored_at f b k w None = stored f (Then.Stop Because.FetchOutside)
 
 -- the word w at K, "then P is K + 1"; "the target of 010, outside the field" stops
 unfoldable pub return_jumped : List ℕ → Bounds → ℕ → ℕ → Stored

@@ -2,3 +2,4 @@
 #![tactic(auto)]
 
 pub mod apply;
+pub mod field;

@@ -4,6 +4,7 @@ ghost use Rattle.central_codes.specs.Table.{entry_at, follows_rule};
 
 // An entry is the length of the code in bits, and this much more where the code is unfit. So the entry of an unfit code exceeds the bits of
 // any word, and one comparison with the bits that remain of a word finds stops 4 and 5.
+// Kept: a number and no enum of fit and unfit lengths, which would have to be taken apart first where now one comparison finds both stops.
 pub const UNFIT: u64 = 64;
 
 const FIT_15: u8 = 15;
@@ -533,25 +534,24 @@ const TABLE: [u8; 512] = [
     FIT_15, // 777
 ];
 
+// The table of all codes.
+#[derive(Drop)]
+pub struct CodeTable {
+    entries: [u8; 512],
+    ghost by_rule: { follows_rule entries ≡ true },
+}
+
 // The table, to be lent to the turns: named inside a turn, a constant array would be built again at every use.
-pub fn table() -> [u8; 512]
-    ensures { follows_rule result ≡ true }
-{
-    TABLE
+pub fn table() -> CodeTable {
+    CodeTable { entries: TABLE }
 }
 
-// Apart, so that the index and the cast are proved by themselves.
-fn widened(x: u8) -> u64
-    ensures { result ≡ x }
-{
-    x as u64
-}
-
-// The entry of the nine-bit beginning n.
-pub fn entry_of(t: &[u8; 512], n: u64) -> u64
-    requires t_value { follows_rule t.now ≡ true }
-    requires n_bound { n < 512 }
-    ensures { result ≡ entry_at n }
-{
-    widened(t[n as usize])
+impl CodeTable {
+    // The entry of an instruction that begins with these nine bits f m i.
+    pub fn entry(&self, nine_bits: u64) -> u64
+        requires { nine_bits < 512 }
+        ensures { result ≡ entry_at nine_bits }
+    {
+        u64::from(self.entries[nine_bits as usize])
+    }
 }

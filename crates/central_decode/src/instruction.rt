@@ -2,6 +2,10 @@
 ghost use Rattle.central_decode.specs.Shifted.{decoded_top};
 ghost use Rattle.central_decode.specs.Widths.{Read};
 
+use word_arithmetic::sums::low;
+
+// Kept: the widths (`Fit` of specs/Widths.antt) are no ghost fields, since the definitions `decoded` and `decoded_top` build instructions
+// too and would have to carry proofs beside the bits.
 #[derive(Clone, Copy)]
 pub struct Instruction {
     // The digits f and m.
@@ -21,10 +25,10 @@ pub fn decode(v: u64) -> Instruction
 {
     Instruction {
         code: v >> 58,
-        i: ((v >> 55) & 7) as usize,
-        j: ((v >> 52) & 7) as usize,
-        k: ((v >> 49) & 7) as usize,
-        jk: (v >> 49) & 0o77,
-        constant: (v >> 34) & 0o777777,
+        i: low::<3>(v >> 55) as usize,
+        j: low::<3>(v >> 52) as usize,
+        k: low::<3>(v >> 49) as usize,
+        jk: low::<6>(v >> 49),
+        constant: low::<18>(v >> 34),
     }
 }

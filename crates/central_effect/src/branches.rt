@@ -9,7 +9,7 @@ use base_outcome::stop::CentralStop;
 use central_condition::conditions::{comparison, word_condition};
 use central_decode::instruction::Instruction;
 use central_registers::registers::{b_of, x_of};
-use word_arithmetic::sums::sum18;
+use word_arithmetic::sums::sum;
 
 // What 010 writes: 0400, P + 1 and ten zeros.
 fn return_word(p: u64) -> u64
@@ -20,6 +20,7 @@ fn return_word(p: u64) -> u64
 }
 
 // Code 0m in the word at p.
+#[tactic(auto, unfolding(crate::specs::Effects::branch_of))]
 pub(crate) fn effect_of(r: &[u64; 24], q: Instruction, m: u64, p: u64) -> CentralEffect
     requires wide { Wide r.now }
     requires fit { Fit q }
@@ -33,7 +34,7 @@ pub(crate) fn effect_of(r: &[u64; 24], q: Instruction, m: u64, p: u64) -> Centra
     match m {
         0 => CentralEffect::Stop(CentralStop::Halt),
         1 => CentralEffect::ReturnJump(k, return_word(p)),
-        2 => CentralEffect::Jump(sum18(b_of(r, i), k)),
+        2 => CentralEffect::Jump(sum::<18>(b_of(r, i), k)),
         3 => jump_if(word_condition(i as u64, x_of(r, j)), k),
         _ => jump_if(comparison(m, b_of(r, i), b_of(r, j)), k),
     }

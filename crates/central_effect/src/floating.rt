@@ -23,21 +23,13 @@ fn em_set(em: u64, place: u64) -> bool
 fn stops_on_infinite(em: u64, x: u64, y: u64) -> bool
     ensures { result ≡ stops_on_infinite em x y }
 {
-    if em_set(em, INFINITE_BIT) {
-        either_infinite(x, y)
-    } else {
-        false
-    }
+    em_set(em, INFINITE_BIT) && either_infinite(x, y)
 }
 
 fn stops_on_indefinite(em: u64, x: u64, y: u64) -> bool
     ensures { result ≡ stops_on_indefinite em x y }
 {
-    if em_set(em, INDEFINITE_BIT) {
-        either_indefinite(x, y)
-    } else {
-        false
-    }
+    em_set(em, INDEFINITE_BIT) && either_indefinite(x, y)
 }
 
 // The effect e, unless an operand stops the code, with 8 before 7. An effect writes nothing, so it may be worked out before the test.
@@ -64,6 +56,7 @@ pub(crate) fn result_to(em: u64, i: usize, x: u64, y: u64, res: u64) -> CentralE
 }
 
 // 24: the normalized x to Xi, the count to Bj.
+#[tactic(auto, unfolding(crate::specs::Floating::normalize_to))]
 pub(crate) fn normalize_to(em: u64, i: usize, j: usize, x: u64) -> CentralEffect
     requires { x < 2 ^ 60 }
     ensures { result ≡ normalize_to em i j x }

@@ -7,8 +7,9 @@ ghost use Rattle.central_effect.specs.Effects.{effect_of};
 use super::effect::CentralEffect;
 use super::rows::{branch, logic, mask_or_count, set_a, set_b, set_x, shift, sum};
 
-// The effect of the instruction at the top of v, of the word at p, under the exit mode em: an arm for each code, with its name in the manual. A code left out does
-// not get here; were it to, its row would stop it.
+// The effect of the instruction at the top of v, of the word at p, under the exit mode em: an arm for each code, with its name in the
+// manual. A code left out does not get here; were it to, its row would stop it.
+#[tactic(auto, unfolding(crate::specs::Effects::effect_of, central_decode::specs::Shifted::decoded_top))]
 pub fn effect_of(r: &[u64; 24], v: u64, em: u64, p: u64) -> CentralEffect
     requires wide { Wide r.now }
     requires p_bound { p < 131072 }

@@ -1,5 +1,7 @@
 // One function for each first digit of a code. It decodes the instruction at the top of v, and works out the effect of its second digit m.
 // Each arm of the listing decodes for itself, so that the compiler drops the parts that its code does not use.
+// Kept: r, v, p, em and m come one by one, so that a row's parameters show of what its effects are worked out: of P in 00 to 07 alone, of
+// the exit mode in 20 to 37 alone. A struct of them would hide it.
 ghost use Rattle.std.specs.Prelude.{◌≡◌, ◌<◌};
 ghost use Rattle.word_arithmetic.specs.Logic.{logical};
 ghost use Rattle.word_arithmetic.specs.Sums.{sign_extend};
@@ -68,6 +70,7 @@ pub(crate) fn mask_or_count(r: &[u64; 24], v: u64, m: u64) -> CentralEffect
 }
 
 // Codes 50 to 57.
+// Kept: a row by itself beside 60 to 67: a function of both would be handed `SetA` or `SetB` as a closure, in each of 16 arms.
 pub(crate) fn set_a(r: &[u64; 24], v: u64, m: u64) -> CentralEffect
     requires wide { Wide r.now }
     requires m_bound { m < 8 }

@@ -1,10 +1,9 @@
 -- The central record and the memory that the host lends, by document 01, "Memory and records" and "Who can be turned down".
-use Rattle.std.specs.Prelude.{ℕ, ◌+◌, ◌*◌, ◌^◌, ◌<◌, Bool, true, ◌&&◌, cond, List, ◌≡◌, ltb, leb, eqb, length, get_or}
+use Rattle.std.specs.Prelude.{ℕ, ◌+◌, ◌*◌, ◌^◌, ◌<◌, Bool, true, ◌&&◌, cond, List, ◌≡◌, ltb, leb, eqb, length, get_or, Ok, Err}
 use Rattle.word_arithmetic.specs.Bits.{bits}
 use Rattle.base_outcome.specs.Numbers.{central_stop_listed}
 use Rattle.base_outcome.specs.declared.refusal.Refusal.TheVariants as Refusal
-use Rattle.base_outcome.specs.declared.refusal.Verdict.{Verdict}
-use Rattle.base_outcome.specs.declared.refusal.Verdict.TheVariants as Call
+use Rattle.base_outcome.specs.Verdict.{Verdict}
 use Rattle.central_registers.specs.Registers.{b_of}
 use Rattle.central_record.specs.declared.record.Central.{Central}
 use Rattle.base_lists.specs.Indexed.{all_below}
@@ -62,6 +61,6 @@ unfoldable pub host_verdict : List ℕ → Central → Verdict
 host_verdict m c =
     cond (length_fits (length m))
     (cond (words_fit m)
-    (cond (record_fits (length m) c) Call.Accepted (Call.Refused Refusal.RecordValue))
-    (Call.Refused Refusal.CentralWord))
-    (Call.Refused Refusal.CentralLength)
+    (cond (record_fits (length m) c) (Ok tt) (Err Refusal.RecordValue))
+    (Err Refusal.CentralWord))
+    (Err Refusal.CentralLength)

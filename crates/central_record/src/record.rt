@@ -4,7 +4,7 @@ ghost use Rattle.base_lists.specs.Indexed.{all_below};
 ghost use Rattle.base_outcome.specs.Numbers.{central_stop_listed};
 ghost use Rattle.central_record.specs.Record.{em_fits, register_width, registers_fit, record_fits, length_fits, below, words_fit, host_verdict};
 
-use base_outcome::refusal::{Refusal, Verdict};
+use base_outcome::refusal::Refusal;
 
 // The central processor's record.
 #[derive(Clone, Copy)]
@@ -16,6 +16,7 @@ pub struct Central {
     // A0 to A7 at 0 to 7, B0 to B7 at 8 to 15, X0 to X7 at 16 to 23.
     pub registers: [u64; 24],
     // 0 while the processor runs, else its stop's number.
+    // Kept: a number and no `Option` of a stop, since a host may lend any, and number 5 is the test of it (`record_fits`).
     pub stop: u64,
 }
 
@@ -31,114 +32,75 @@ fn register_limit(i: usize) -> u64
     ensures { result ≡ 2 ^ register_width i }
 {
     if i < 16 {
-        return 0o1000000;
+        0o1000000
+    } else {
+        0o100000000000000000000
     }
-    0o100000000000000000000
 }
 
 // Each register has its width.
 fn registers_fit(registers: [u64; 24]) -> bool
     ensures { result ≡ registers_fit registers }
 {
-    let mut i: usize = 0;
-    while i < 24 {
-        let limit = register_limit(i);
-        if limit <= registers[i] {
-            return false;
-        }
-        i = i + 1;
-    }
-    true
+    (0..24).all(|i: usize| registers[i] < register_limit(i))
 }
 
 // A stop that a central record may hold, or 0.
 fn stop_listed(stop: u64) -> bool
     ensures { result ≡ central_stop_listed stop }
 {
-    if stop <= 5 {
-        return true;
-    }
-    stop == 7 || stop == 8
+    stop <= 5 || stop == 7 || stop == 8
 }
 
 // Number 5 does not refuse the record. RA and FL are added once both are known to have 18 bits.
+#[tactic(auto, unfolding(crate::specs::Record::record_fits))]
 pub fn record_fits(c: Central, words: u64) -> bool
     ensures { result ≡ record_fits words c }
 {
-    if 0o777777 < c.p {
-        return false;
-    }
-    if 0o777777 < c.ra {
-        return false;
-    }
-    if 0o777777 < c.fl {
-        return false;
-    }
-    if words < c.ra + c.fl {
-        return false;
-    }
-    if !stop_listed(c.stop) {
-        return false;
-    }
-    let b0 = c.registers[8];
-    if b0 != 0 {
-        return false;
-    }
-    if em_fits(c.em) {
-        return registers_fit(c.registers);
-    }
-    false
+    c.p <= 0o777777
+        && c.ra <= 0o777777
+        && c.fl <= 0o777777
+        && c.ra + c.fl <= words
+        && stop_listed(c.stop)
+        && c.registers[8] == 0
+        && em_fits(c.em)
+        && registers_fit(c.registers)
 }
 
 // Each entry is below this limit.
 pub fn all_below(m: &[u64], limit: u64) -> bool
     ensures { result ≡ all_below (length m.now) (below limit m.now) }
 {
-    let mut i: usize = 0;
-    while i < m.len() {
-        if limit <= m[i] {
-            return false;
-        }
-        i = i + 1;
-    }
-    true
+    m.iter().all(|word| *word < limit)
 }
 
 // Each word of memory has 60 bits. The words are ORed in one pass without an early exit, of which the compiler makes wide instructions.
 pub fn words_fit(m: &[u64]) -> bool
     ensures { result ≡ words_fit m.now }
 {
-    let mut all: u64 = 0;
-    let mut i: usize = 0;
-    while i < m.len() {
-        all = all | m[i];
-        i = i + 1;
-    }
-    all < 0o100000000000000000000
+    m.iter().fold(0, |all, word| all | word) < 0o100000000000000000000
 }
 
 // Number 1: central memory has 1 to 131,072 words.
 pub fn length_fits(words: usize) -> bool
     ensures { result ≡ length_fits words }
 {
-    if words == 0 {
-        return false;
-    }
-    words <= 131072
+    (1..=131072).contains(&words)
 }
 
 // Numbers 1, 3 and 5 on a lent memory and record, lowest first.
-pub fn host_verdict(m: &[u64], c: Central) -> Verdict
+#[tactic(auto, unfolding(crate::specs::Record::host_verdict))]
+pub fn host_verdict(m: &[u64], c: Central) -> Result<(), Refusal>
     ensures { result ≡ host_verdict m.now c }
 {
     if !length_fits(m.len()) {
-        return Verdict::Refused(Refusal::CentralLength);
+        return Err(Refusal::CentralLength);
     }
     if !words_fit(m) {
-        return Verdict::Refused(Refusal::CentralWord);
+        return Err(Refusal::CentralWord);
     }
     if !record_fits(c, m.len() as u64) {
-        return Verdict::Refused(Refusal::RecordValue);
+        return Err(Refusal::RecordValue);
     }
-    Verdict::Accepted
+    Ok(())
 }

@@ -1,4 +1,5 @@
 -- Consequences of the definitions.
+pub mod Stop
 pub mod Step
 pub mod Turn
 pub mod Remaining

@@ -1,5 +1,5 @@
 // The edge operands.
-ghost use Rattle.std.specs.Prelude.{◌<◌, ◌^◌};
+ghost use Rattle.std.specs.Prelude.{◌<◌, ◌^◌, All};
 
 const EDGES: [u64; 35] = [
     // Zeros with the exponents -1023, 0, 1022, -975 and -976.
@@ -46,10 +46,9 @@ const EDGES: [u64; 35] = [
     0o60000000000000000001,
 ];
 
-// The remainder tells the checker that it has 60 bits.
-pub(crate) fn edge(i: usize) -> u64
-    requires { i < 35 }
-    ensures { result < 2 ^ 60 }
+// The remainder tells the checker that each has 60 bits.
+pub(crate) fn edges() -> [u64; 35]
+    ensures { All (λ w. w < 2 ^ 60) result }
 {
-    EDGES[i] % 0o100000000000000000000
+    EDGES.map(|w| w % 0o100000000000000000000)
 }

@@ -5,22 +5,15 @@
 
 mod edges;
 mod results;
-mod show;
-
-// Each pair of the 35 edge operands.
-fn pairs(output: &impl Print) {
-    for i in 0..1225usize {
-        results::sums(output, edges::edge(i / 35), edges::edge(i % 35));
-    }
-}
-
-fn words(output: &impl Print) {
-    for i in 0..35usize {
-        results::alone(output, edges::edge(i));
-    }
-}
 
 fn main(rt: HostRuntime) {
-    pairs(&rt);
-    words(&rt);
+    let words = edges::edges();
+    for xj in words {
+        for xk in words {
+            results::sums(&rt, xj, xk);
+        }
+    }
+    for xk in words {
+        results::alone(&rt, xk);
+    }
 }

@@ -1,10 +1,10 @@
 // The results of one pair of words, and of one word.
 ghost use Rattle.std.specs.Prelude.{◌<◌, ◌^◌};
 
-use super::show;
 use floating_normalize::normalize::normalize;
 use floating_sum::sums::floating_sum;
 use floating_word::special::{is_indefinite, is_infinite};
+use word_print::print as show;
 
 // Of 30 to 33.
 pub(crate) fn sums(output: &impl Print, xj: u64, xk: u64)
@@ -12,10 +12,11 @@ pub(crate) fn sums(output: &impl Print, xj: u64, xk: u64)
 {
     show::word(output, xj);
     show::word(output, xk);
-    show::word(output, floating_sum(false, false, xj, xk));
-    show::word(output, floating_sum(true, false, xj, xk));
-    show::word(output, floating_sum(false, true, xj, xk));
-    show::word(output, floating_sum(true, true, xj, xk));
+    for lower in [false, true] {
+        for subtract in [false, true] {
+            show::word(output, floating_sum(subtract, lower, xj, xk));
+        }
+    }
     show::end_line(output);
 }
 

@@ -1,6 +1,7 @@
 -- The twelve marked results of document 01 as one table, each as what a turn does. Laws.Marked proves that all hold.
-use Rattle.std.specs.Prelude.{◌≡◌, List, ℕ, ◌+◌, ◌-◌, ◌*◌, ◌^◌, ◌≤◌, ◌<◌, get_or, set}
+use Rattle.std.specs.Prelude.{Some, None, ◌≡◌, List, ℕ, ◌+◌, ◌-◌, ◌*◌, ◌^◌, ◌≤◌, ◌<◌, get_or, set}
 use Rattle.word_arithmetic.specs.Sums.{complement}
+use Rattle.base_outcome.specs.declared.stop.CentralStop.TheVariants as Because
 use Rattle.central_field.specs.declared.address.Bounds.{Bounds}
 use Rattle.central_registers.specs.Registers.{b_of, x_of, set_b, set_x}
 use Rattle.central_apply.specs.State.{State, state}
@@ -19,7 +20,7 @@ instruction_word code i j k = (code * 8 ^ 3 + i * 8 ^ 2 + j * 8 + k) * 2 ^ 45 + 
 pub record TurnLeaves (code i j k : ℕ) (before after : List ℕ) : Type 0 where
   pub turn : i < 8 → j < 8 → k < 8
       → (b : Bounds) (p : ℕ) (f : List ℕ) → p < b.fl → get_or f p 0 ≡ instruction_word code i j k
-      → turn_of b p (state before f) ≡ turned (state after f) (turn_end (p + 1) 0)
+      → turn_of b p (state before f) ≡ turned (state after f) (turn_end (p + 1) None)
 
 -- peripheral processor n is running, and w is the word at its P
 pub record Runs (h : Machine) (n w : ℕ) : Type 0 where
@@ -56,10 +57,10 @@ pub record Marked : Type 0 where
       → peripheral_turn_of h n ≡ one_word_on h n (set h.peripheral d 0o7776) 0o777776
   -- "010 to K = 2 at P = 0 writes 04000000010000000000, P is 3": where 2 is below FL, and whatever stands in the word's other half
   pub return-jump : (b : Bounds) (r f : List ℕ) (rest : ℕ) → 2 < b.fl → rest < 2 ^ 30 → get_or f 0 0 ≡ 0o01000000020000000000 + rest
-      → turn_of b 0 (state r f) ≡ turned (state r (set f 2 0o04000000010000000000)) (turn_end 3 0)
+      → turn_of b 0 (state r f) ≡ turned (state r (set f 2 0o04000000010000000000)) (turn_end 3 None)
   -- "26 of 17760000000000000005 gives 5 and 777776": of Xk, to Xi and Bj
   pub unpacked : (i j k : ℕ) (r : List ℕ) → x_of r k ≡ 0o17760000000000000005 → TurnLeaves 0o26 i j k r (set_b (set_x r i 5) j 0o777776)
   -- "P = FL - 1 fetches": the turn is that of the word there
   pub last_word : (b : Bounds) (s : State) → 0 < b.fl → turn_of b (b.fl - 1) s ≡ word_run b (b.fl - 1) (get_or s.field (b.fl - 1) 0) s
-  -- "P = FL stops with 3", and nothing else changes
-  pub past-last-word : (b : Bounds) (s : State) → turn_of b b.fl s ≡ turned s (turn_end b.fl 3)
+  -- "P = FL stops with 3", the number of FetchOutside, and nothing else changes
+  pub past-last-word : (b : Bounds) (s : State) → turn_of b b.fl s ≡ turned s (turn_end b.fl (Some Because.FetchOutside))

@@ -1,25 +1,58 @@
 // Makes the call of a line on the memories and the record that it lends.
-use super::given::Outcome;
-use super::line::{CALL, Numbers, STINT_COUNT};
-use super::{central_call, device_call, machine_call, schedule_call};
+use super::given::Given;
+use super::lent::Lent;
+use super::line::{CALL, STINT_COUNT};
 
-// The calls that give no stints.
-fn make_other(central: &mut [u64], peripheral: &mut [u16], numbers: &mut Numbers) -> Outcome {
-    let call = numbers[CALL];
-    numbers[STINT_COUNT] = 0;
-    match call {
-        1 => central_call::answer_turn(&mut *central, &mut *numbers),
-        2 => central_call::answer_exchange(&mut *central, &mut *numbers),
-        4 => machine_call::answer_turn(&mut *central, &mut *peripheral, &mut *numbers),
-        5 => machine_call::answer_run(&mut *central, &mut *peripheral, &mut *numbers),
-        6..9 => device_call::answer(&mut *numbers),
-        _ => Outcome::Unreadable,
+#[derive(Clone, Copy)]
+enum Call {
+    CentralTurn,
+    Exchange,
+    Schedule,
+    PeripheralTurn,
+    Run,
+    Put,
+    Take,
+    Drop,
+}
+
+impl Call {
+    // The call that has this number in a line.
+    fn of(number: u64) -> Option<Call> {
+        match number {
+            1 => Some(Call::CentralTurn),
+            2 => Some(Call::Exchange),
+            3 => Some(Call::Schedule),
+            4 => Some(Call::PeripheralTurn),
+            5 => Some(Call::Run),
+            6 => Some(Call::Put),
+            7 => Some(Call::Take),
+            8 => Some(Call::Drop),
+            _ => None,
+        }
     }
 }
 
-pub(crate) fn make(central: &mut [u64], peripheral: &mut [u16], numbers: &mut Numbers) -> Outcome {
-    if numbers[CALL] == 3 {
-        return schedule_call::answer(&mut *central, &mut *numbers);
+impl Lent<'_> {
+    // The calls that give no stints.
+    fn call_without_stints(&mut self, call: Call) -> Option<Given> {
+        self.numbers[STINT_COUNT] = 0;
+        match call {
+            Call::CentralTurn => Some(self.central_turn()),
+            Call::Exchange => Some(self.exchange()),
+            Call::Schedule => None,
+            Call::PeripheralTurn => Some(self.peripheral_turn()),
+            Call::Run => Some(self.run()),
+            Call::Put => self.put(),
+            Call::Take => self.take(),
+            Call::Drop => self.drop_channel(),
+        }
     }
-    make_other(&mut *central, &mut *peripheral, &mut *numbers)
+
+    // None for a line of no call that this program makes.
+    pub(crate) fn call(&mut self) -> Option<Given> {
+        match Call::of(self.numbers[CALL])? {
+            Call::Schedule => self.schedule(),
+            call => self.call_without_stints(call),
+        }
+    }
 }

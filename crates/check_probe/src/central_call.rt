@@ -1,23 +1,20 @@
 // The calls on the central processor alone: a turn and an exchange.
-ghost use Rattle.std.specs.Prelude.{◌≡◌, length};
-ghost use Rattle.check_probe.specs.Room.{places};
-
-use super::given;
-use super::given::Outcome;
+use super::given::Given;
+use super::lent::Lent;
 use super::line::{ARGUMENT, CLOCK, RECORD};
 use host_calls::central_calls::{tozhenab_central_turn, tozhenab_exchange};
 
-pub(crate) fn answer_turn(memory: &mut [u64], numbers: &mut [u64]) -> Outcome
-    requires { length numbers.old ≡ places }
-{
-    let refusal = tozhenab_central_turn(&mut *memory, &mut numbers[RECORD..CLOCK]);
-    given::refusal(refusal)
-}
+impl Lent<'_> {
+    pub(crate) fn central_turn(&mut self) -> Given {
+        let numbers = &mut *self.numbers;
+        let record = &mut numbers[RECORD..CLOCK];
+        Given::refusal(tozhenab_central_turn(self.central, record))
+    }
 
-pub(crate) fn answer_exchange(memory: &mut [u64], numbers: &mut [u64]) -> Outcome
-    requires { length numbers.old ≡ places }
-{
-    let address = numbers[ARGUMENT];
-    let refusal = tozhenab_exchange(&mut *memory, &mut numbers[RECORD..CLOCK], address);
-    given::refusal(refusal)
+    pub(crate) fn exchange(&mut self) -> Given {
+        let address = self.numbers[ARGUMENT];
+        let numbers = &mut *self.numbers;
+        let record = &mut numbers[RECORD..CLOCK];
+        Given::refusal(tozhenab_exchange(self.central, record, address))
+    }
 }

@@ -1,53 +1,39 @@
 // The device calls, on the channel that is the one job of the line.
-ghost use Rattle.std.specs.Prelude.{◌≡◌, ◌≤◌, length};
-ghost use Rattle.check_probe.specs.Room.{places};
-
-use super::given;
-use super::given::Outcome;
-use super::line::{ARGUMENT, CALL, CHANNELS, JOB_COUNT, JOBS, Numbers};
+use super::given::Given;
+use super::lent::Lent;
+use super::line::{ARGUMENT, CHANNELS, JOB_COUNT, JOBS, Numbers};
 use host_calls::device_calls::{tozhenab_drop, tozhenab_put, tozhenab_take};
 
-fn put(numbers: &mut [u64], at: usize) -> Outcome
-    requires numbers_len { length numbers.old ≡ places }
-    requires at_bound { at ≤ 80 }
-{
-    let word = numbers[ARGUMENT];
-    let refusal = tozhenab_put(&mut numbers[at..at + 4], word);
-    given::refusal(refusal)
-}
-
-fn take(numbers: &mut [u64], at: usize) -> Outcome
-    requires numbers_len { length numbers.old ≡ places }
-    requires at_bound { at ≤ 80 }
-{
-    let mut result = [0u64; 2];
-    let refusal = tozhenab_take(&mut numbers[at..at + 4], &mut result);
-    given::taken(refusal, result[0], result[1])
-}
-
-fn drop(numbers: &mut [u64], at: usize) -> Outcome
-    requires numbers_len { length numbers.old ≡ places }
-    requires at_bound { at ≤ 80 }
-{
-    let refusal = tozhenab_drop(&mut numbers[at..at + 4]);
-    given::refusal(refusal)
-}
-
-pub(crate) fn answer(numbers: &mut Numbers) -> Outcome {
+// The four numbers of the channel.
+fn channel(numbers: &mut Numbers) -> Option<&mut [u64]> {
     let job = numbers[JOBS];
-    if numbers[JOB_COUNT] != 1 {
-        return Outcome::Unreadable;
-    }
-    if 12 <= job {
-        return Outcome::Unreadable;
+    if numbers[JOB_COUNT] != 1 || 12 <= job {
+        return None;
     }
     let at = CHANNELS + 4 * (job as usize);
-    let call = numbers[CALL];
-    if call == 6 {
-        return put(&mut *numbers, at);
+    Some(&mut numbers[at..at + 4])
+}
+
+impl Lent<'_> {
+    pub(crate) fn put(&mut self) -> Option<Given> {
+        let word = self.numbers[ARGUMENT];
+        let channel = channel(self.numbers)?;
+        Some(Given::refusal(tozhenab_put(channel, word)))
     }
-    if call == 7 {
-        return take(&mut *numbers, at);
+
+    pub(crate) fn take(&mut self) -> Option<Given> {
+        let channel = channel(self.numbers)?;
+        let mut taken = [0; 2];
+        let refusal = tozhenab_take(channel, &mut taken);
+        Some(Given {
+            word: taken[0],
+            mark: taken[1],
+            ..Given::refusal(refusal)
+        })
     }
-    drop(&mut *numbers, at)
+
+    pub(crate) fn drop_channel(&mut self) -> Option<Given> {
+        let channel = channel(self.numbers)?;
+        Some(Given::refusal(tozhenab_drop(channel)))
+    }
 }

@@ -1,44 +1,26 @@
 // The calls on the whole machine: a turn of a peripheral processor and a run.
-ghost use Rattle.std.specs.Prelude.{◌≡◌, length};
-ghost use Rattle.check_probe.specs.Room.{places};
-
-use super::given;
-use super::given::Outcome;
+use super::given::Given;
+use super::lent::Lent;
 use super::line::{ARGUMENT, JOB_COUNT, RECORD};
 use host_calls::machine_calls::{tozhenab_peripheral_turn, tozhenab_run};
 
-pub(crate) fn answer_turn(
-    central: &mut [u64],
-    peripheral: &mut [u16],
-    numbers: &mut [u64],
-) -> Outcome
-    requires { length numbers.old ≡ places }
-{
-    let processor = numbers[ARGUMENT];
-    let refusal = tozhenab_peripheral_turn(
-        &mut *central,
-        &mut *peripheral,
-        &mut numbers[RECORD..JOB_COUNT],
-        processor,
-    );
-    given::refusal(refusal)
-}
+impl Lent<'_> {
+    pub(crate) fn peripheral_turn(&mut self) -> Given {
+        let processor = self.numbers[ARGUMENT];
+        let numbers = &mut *self.numbers;
+        let record = &mut numbers[RECORD..JOB_COUNT];
+        Given::refusal(tozhenab_peripheral_turn(self.central, self.peripheral, record, processor))
+    }
 
-pub(crate) fn answer_run(
-    central: &mut [u64],
-    peripheral: &mut [u16],
-    numbers: &mut [u64],
-) -> Outcome
-    requires { length numbers.old ≡ places }
-{
-    let rounds = numbers[ARGUMENT];
-    let mut result = [0u64; 1];
-    let refusal = tozhenab_run(
-        &mut *central,
-        &mut *peripheral,
-        &mut numbers[RECORD..JOB_COUNT],
-        rounds,
-        &mut result,
-    );
-    given::rounds(refusal, result[0])
+    pub(crate) fn run(&mut self) -> Given {
+        let rounds = self.numbers[ARGUMENT];
+        let numbers = &mut *self.numbers;
+        let record = &mut numbers[RECORD..JOB_COUNT];
+        let mut made = [0; 1];
+        let refusal = tozhenab_run(self.central, self.peripheral, record, rounds, &mut made);
+        Given {
+            count: made[0],
+            ..Given::refusal(refusal)
+        }
+    }
 }

@@ -2,21 +2,19 @@
 // output, in the file stdout, was written by expected.py beside it, from the lists of documents 01 and 02.
 #![tactic(auto)]
 
-ghost use Rattle.std.specs.Prelude.{true, ◌≡◌, ◌<◌};
-ghost use Rattle.central_codes.specs.Table.{follows_rule};
+ghost use Rattle.std.specs.Prelude.{◌<◌};
 
-use central_codes::table::{UNFIT, entry_of, table};
+use central_codes::table::{CodeTable, UNFIT, table};
 
 fn digit(n: u64) -> u8 {
     b'0' + ((n % 8) as u8)
 }
 
 // A line, as `010 30 fit`. A write that fails is passed over: the comparison with the expected output finds what is missing.
-fn print_line(output: &impl Print, t: &[u8; 512], n: u64)
-    requires t_value { follows_rule t.now ≡ true }
-    requires n_bound { n < 512 }
+fn print_line(output: &impl Print, t: &CodeTable, n: u64)
+    requires { n < 512 }
 {
-    let entry = entry_of(t, n);
+    let entry = t.entry(n);
     let beginning = [digit(n / 64), digit(n / 8), digit(n), b' '];
     let _ = output.write_all(&beginning);
     let _ = output.print(entry % UNFIT);

@@ -1,8 +1,7 @@
 // 22 and 23, by Bj of edge magnitudes.
-ghost use Rattle.std.specs.Prelude.{◌<◌, ◌^◌};
-
-use super::show;
-use word_arithmetic::sums::complement18;
+use super::operand::{Operand, Value, Word};
+use word_arithmetic::sums::complement;
+use word_print::print as show;
 use word_shift::nominal::nominal;
 
 // Counts below 60, 60 to 63, 64 and 65, other multiples of 64 with neighbours, and the greatest magnitude.
@@ -11,27 +10,20 @@ const MAGNITUDES: [u64; 16] = [
     0o377777,
 ];
 
-pub(crate) fn magnitude(i: usize) -> u64
-    requires { i < 16 }
-    ensures { result < 2 ^ 18 }
-{
-    MAGNITUDES[i] % 0o1000000
+pub(crate) fn magnitudes() -> [Value; 16] {
+    MAGNITUDES.map(|b| Operand::of(b))
 }
 
-fn shift(output: &impl Print, b: u64, x: u64)
-    requires { (b < 2 ^ 18) × (x < 2 ^ 60) }
-{
-    show::short(output, b);
-    show::word(output, x);
-    show::word(output, nominal(true, b, x));
-    show::word(output, nominal(false, b, x));
+fn shift(output: &impl Print, b: Value, x: Word) {
+    show::short(output, b.bits);
+    show::word(output, x.bits);
+    show::word(output, nominal(true, b.bits, x.bits));
+    show::word(output, nominal(false, b.bits, x.bits));
     show::end_line(output);
 }
 
 // By the magnitude itself, and by its complement.
-pub(crate) fn shifts(output: &impl Print, b: u64, x: u64)
-    requires { (b < 2 ^ 18) × (x < 2 ^ 60) }
-{
+pub(crate) fn shifts(output: &impl Print, b: Value, x: Word) {
     shift(output, b, x);
-    shift(output, complement18(b), x);
+    shift(output, Operand::of(complement::<18>(b.bits)), x);
 }

@@ -1,16 +1,15 @@
 // Operations on words of 60 bits.
-ghost use Rattle.std.specs.Prelude.{◌<◌, ◌^◌};
+ghost use Rattle.std.specs.Prelude.{◌<◌};
 
-use super::show;
+use super::operand::{Operand, Word};
 use central_condition::conditions::word_condition;
 use central_decode::instruction::{Instruction, decode};
 use word_arithmetic::logic::logical;
-use word_arithmetic::sums::{
-    complement60, difference60, is_negative60, low12, low18, magnitude60, sum60,
-};
+use word_arithmetic::sums::{complement, difference, is_negative, low, magnitude, sum};
 use word_fields::fields::{from_parts, part};
+use word_print::print as show;
 use word_shift::floating::unpack;
-use word_shift::shifts::{count_ones60, mask60, rotate_left60, shift_right60};
+use word_shift::shifts::{count_ones, mask, rotate_left, shift_right_signed};
 
 const EDGES: [u64; 12] = [
     0,
@@ -27,58 +26,30 @@ const EDGES: [u64; 12] = [
     0o51234567012345670123,
 ];
 
-// The edge operand at place i; the remainder tells the checker that it has 60 bits.
-pub(crate) fn edge(i: usize) -> u64
-    requires { i < 12 }
-    ensures { result < 2 ^ 60 }
-{
-    EDGES[i] % 0o100000000000000000000
+pub(crate) fn edges() -> [Word; 12] {
+    EDGES.map(|w| Operand::of(w))
 }
 
-fn logicals(output: &impl Print, a: u64, b: u64)
-    requires { (a < 2 ^ 60) × (b < 2 ^ 60) }
-{
-    show::word(output, logical(0, a, b));
-    show::word(output, logical(1, a, b));
-    show::word(output, logical(2, a, b));
-    show::word(output, logical(3, a, b));
-    show::word(output, logical(4, a, b));
-    show::word(output, logical(5, a, b));
-    show::word(output, logical(6, a, b));
-    show::word(output, logical(7, a, b));
-}
-
-pub(crate) fn pair(output: &impl Print, a: u64, b: u64)
-    requires { (a < 2 ^ 60) × (b < 2 ^ 60) }
-{
-    show::word(output, a);
-    show::word(output, b);
-    show::word(output, sum60(a, b));
-    show::word(output, difference60(a, b));
-    logicals(output, a, b);
+pub(crate) fn pair(output: &impl Print, a: Word, b: Word) {
+    show::word(output, a.bits);
+    show::word(output, b.bits);
+    show::word(output, sum::<60>(a.bits, b.bits));
+    show::word(output, difference::<60>(a.bits, b.bits));
+    for m in 0..8 {
+        show::word(output, logical(m, a.bits, b.bits));
+    }
     show::end_line(output);
 }
 
-pub(crate) fn shift(output: &impl Print, w: u64, k: u64)
-    requires { (w < 2 ^ 60) × (k < 64) }
+pub(crate) fn shift(output: &impl Print, w: Word, k: u64)
+    requires { k < 64 }
 {
-    show::word(output, w);
+    show::word(output, w.bits);
     show::short(output, k);
-    show::word(output, rotate_left60(w, k));
-    show::word(output, shift_right60(w, k));
-    show::word(output, mask60(k));
+    show::word(output, rotate_left::<60>(w.bits, k));
+    show::word(output, shift_right_signed::<60>(w.bits, k));
+    show::word(output, mask::<60>(k));
     show::end_line(output);
-}
-
-fn conditions(output: &impl Print, w: u64) {
-    show::flag(output, word_condition(0, w));
-    show::flag(output, word_condition(1, w));
-    show::flag(output, word_condition(2, w));
-    show::flag(output, word_condition(3, w));
-    show::flag(output, word_condition(4, w));
-    show::flag(output, word_condition(5, w));
-    show::flag(output, word_condition(6, w));
-    show::flag(output, word_condition(7, w));
 }
 
 // The digits f m i j k, the code and jk.
@@ -94,25 +65,24 @@ fn digits(output: &impl Print, q: Instruction) {
 
 // The instruction at each of the four places, and K where there is one.
 fn instructions(output: &impl Print, w: u64) {
-    let first = decode(w << 4);
-    let second = decode(w << 19);
-    let third = decode(w << 34);
-    let fourth = decode(w << 49);
-    digits(output, first);
-    digits(output, second);
-    digits(output, third);
-    digits(output, fourth);
-    show::short(output, first.constant);
-    show::short(output, second.constant);
-    show::short(output, third.constant);
+    let all = [
+        decode(w << 4),
+        decode(w << 19),
+        decode(w << 34),
+        decode(w << 49),
+    ];
+    for q in all {
+        digits(output, q);
+    }
+    for q in &all[..3] {
+        show::short(output, q.constant);
+    }
 }
 
 fn parts(output: &impl Print, w: u64) {
-    show::short(output, part(w, 0));
-    show::short(output, part(w, 1));
-    show::short(output, part(w, 2));
-    show::short(output, part(w, 3));
-    show::short(output, part(w, 4));
+    for place in 0..5 {
+        show::short(output, part(w, place));
+    }
 }
 
 // The word with its five parts in the opposite order.
@@ -120,20 +90,21 @@ fn reversed(w: u64) -> u64 {
     from_parts(part(w, 4), part(w, 3), part(w, 2), part(w, 1), part(w, 0))
 }
 
-pub(crate) fn alone(output: &impl Print, w: u64)
-    requires { w < 2 ^ 60 }
-{
+pub(crate) fn alone(output: &impl Print, word: Word) {
+    let w = word.bits;
     show::word(output, w);
-    show::word(output, complement60(w));
-    show::word(output, magnitude60(w));
-    show::short(output, low18(w));
-    show::short(output, low12(w));
-    show::short(output, count_ones60(w));
+    show::word(output, complement::<60>(w));
+    show::word(output, magnitude::<60>(w));
+    show::short(output, low::<18>(w));
+    show::short(output, low::<12>(w));
+    show::short(output, count_ones::<60>(w));
     let u = unpack(w);
     show::word(output, u.coefficient);
     show::short(output, u.exponent);
-    show::flag(output, is_negative60(w));
-    conditions(output, w);
+    show::flag(output, is_negative::<60>(w));
+    for i in 0..8 {
+        show::flag(output, word_condition(i, w));
+    }
     show::end_line(output);
     instructions(output, w);
     parts(output, w);

@@ -1,13 +1,15 @@
 // The line of a refusal.
 ghost use Rattle.std.specs.Prelude.{◌+◌, ◌≤◌, length};
-ghost use Rattle.base_lists.specs.Written.{Wrote};
+ghost use Rattle.word_octal.specs.Writes.{Writes};
 ghost use Rattle.console_answer.specs.Text.{refused_text};
 
 use console_text::pieces::write_decimal_line;
+use word_octal::write::Writer;
 
-pub fn write_refused(out: &mut [u8], at: usize, number: u64) -> usize
-    requires { at + 11 ≤ length out.old }
-    ensures { Wrote out.old at (refused_text number) out.new result }
+#[tactic(auto, unfolding(crate::specs::Text::refused_text))]
+pub fn write_refused(writer: &mut Writer, number: u64)
+    requires { writer.old.at + 11 ≤ length writer.old.out.now }
+    ensures { Writes writer.old (refused_text number) writer.new }
 {
-    write_decimal_line(&mut *out, at, b"refused=", number)
+    write_decimal_line::<2>(writer, b"refused=", number);
 }

@@ -1,9 +1,8 @@
 -- The console's answer to an input, as bytes.
-use Rattle.std.specs.Prelude.{List, ◌++◌, ℕ, replicate}
+use Rattle.std.specs.Prelude.{List, ◌++◌, ℕ, replicate, Ok, Err}
 use Rattle.base_outcome.specs.Numbers.{refusal_number}
 use Rattle.base_outcome.specs.declared.refusal.Refusal.TheVariants as Refusal
-use Rattle.base_outcome.specs.declared.refusal.Verdict.{Verdict}
-use Rattle.base_outcome.specs.declared.refusal.Verdict.TheVariants as Call
+use Rattle.base_outcome.specs.Verdict.{Verdict}
 use Rattle.central_record.specs.declared.record.Central.{Central}
 use Rattle.shared_schedule.specs.Schedule.{Schedule, schedule_end}
 use Rattle.shared_schedule.specs.Refusals.{schedule_verdict}
@@ -21,9 +20,9 @@ schedule_in q =
 -- "four lines a stint (index, job, turns made, stop or 0), then each nonzero word as address=word, by rising address";
 -- "jobs and stints are numbered from 0"; "A refusal prints only refused= and its number"
 abbrev pub printed : Verdict → Schedule → List ℕ
-printed Call.Accepted s =
+printed (Ok _) s =
     stints_text 0 s.stint_jobs (schedule_end s).turns (schedule_end s).stops ++ words_text 0 (schedule_end s).memory
-printed (Call.Refused r) s = refused_text (refusal_number r)
+printed (Err r) s = refused_text (refusal_number r)
 
 abbrev pub unreadable_line : List ℕ
 unreadable_line = refused_text (refusal_number Refusal.UnreadableLine)

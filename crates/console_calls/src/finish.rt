@@ -1,91 +1,89 @@
 // The end of an input: its answer.
-ghost use Rattle.std.specs.Prelude.{◌≡◌};
+ghost use Rattle.std.specs.Prelude.{◌≡◌, ◌≤◌, IfOk, length};
+ghost use Rattle.base_lists.specs.Written.{Wrote};
+ghost use Rattle.base_outcome.specs.Numbers.{refusal_number};
+ghost use Rattle.console_answer.specs.Text.{refused_text};
 ghost use Rattle.console_grammar.specs.Held.{lists};
+ghost use Rattle.console_grammar.specs.Lent.{lists_in, SameLent};
 ghost use Rattle.console_reader.specs.Fed.{ReaderReady};
 ghost use Rattle.console_reader.specs.Reader.{read_at_end};
 ghost use Rattle.console_calls.specs.Finish.{output_number, written, finished, finish_to, finish_answer};
 
 use super::run::run;
-use base_outcome::refusal::{Refusal, Verdict};
+use base_outcome::refusal::{Refusal, verdict_number};
 use console_answer::refused::write_refused;
-use console_reader::reader::{Reader, is_complete, reader_verdict};
+use console_grammar::lent::Lent;
+use console_reader::reader::Reader;
 use shared_limits::limits::MOST_STINTS;
+use word_octal::write::Writer;
 
 // The room that every answer fits in: the most stints, each of 93 bytes at most, and 4,096 words of 44 bytes at most.
 pub const OUTPUT_BYTES: usize = 93 * MOST_STINTS + 44 * 4096;
 
-// What becomes of the end of an input.
-#[derive(Clone, Copy)]
-pub enum Output {
-    // How much of the buffer the answer takes up.
-    Bytes(usize),
-    Refused(Refusal),
+// The number of what becomes of the end of an input: 0 where there is an answer.
+pub fn output_number(output: Result<usize, Refusal>) -> u64
+    ensures { result ≡ output_number output }
+{
+    verdict_number(output.map(|_| ()))
 }
 
-impl Output {
-    // 0 where there is an answer.
-    pub fn number(self) -> u64
-        ensures { result ≡ output_number self }
-    {
-        match self {
-            Output::Bytes(_) => 0,
-            Output::Refused(r) => r.number(),
-        }
-    }
+// The line of a refusal, from the first byte of the buffer on.
+fn print_refused(refusal: Refusal, out: &mut [u8]) -> usize
+    requires { 11 ≤ length out.old }
+    ensures { Wrote out.old 0 (refused_text (refusal_number refusal)) out.new result }
+{
+    let mut writer = Writer { out, at: 0 };
+    write_refused(&mut writer, refusal.number());
+    writer.at
 }
 
 // Answers the input of a reader that no number refuses.
+// Kept: four slices and not `lent`: where a part of a list is read through the struct's `&mut`, nothing says that the list is unchanged
+// afterwards, and the proof of clause `same_lists` of `finish` did not close (tried).
 #[tactic(auto, unfolding(crate::specs::Finish::written_to, crate::specs::Finish::finished_memory))]
 fn answer_input(
-    r: Reader,
+    reader: Reader,
     memory: &mut [u64],
     jobs: &[u64],
     stint_jobs: &[u64],
     stint_turns: &[u64],
     out: &mut [u8],
-) -> Output
-    requires { ReaderReady r memory.old (lists jobs.now stint_jobs.now stint_turns.now) }
+) -> Result<usize, Refusal>
+    requires { ReaderReady reader memory.old (lists jobs.now stint_jobs.now stint_turns.now) }
     ensures { finished (written result out.new) memory.new
-        ≡ finish_to (read_at_end r memory.old (lists jobs.now stint_jobs.now stint_turns.now))
-        out.old memory.old }
+        ≡ finish_to (read_at_end reader memory.old (lists jobs.now stint_jobs.now stint_turns.now)) out.old memory.old }
 {
     if out.len() < OUTPUT_BYTES {
-        return Output::Refused(Refusal::ListLength);
+        return Err(Refusal::ListLength);
     }
-    if !is_complete(r) {
-        let n = write_refused(&mut *out, 0, Refusal::UnreadableLine.number());
-        return Output::Bytes(n);
+    if !reader.is_complete() {
+        return Ok(print_refused(Refusal::UnreadableLine, out));
     }
-    let words = r.progress.words;
-    let listed = r.progress.jobs;
-    let stints = r.progress.stints;
-    let n = run(
+    let words = reader.progress.words;
+    let listed = reader.progress.jobs;
+    let stints = reader.progress.stints;
+    Ok(run(
         &mut memory[..words],
         &jobs[..listed],
         &stint_jobs[..stints],
         &stint_turns[..stints],
-        &mut *out,
-    );
-    Output::Bytes(n)
+        out,
+    ))
 }
 
-// Answers the input that a reader has read.
-pub fn finish(
-    r: Reader,
-    memory: &mut [u64],
-    jobs: &[u64],
-    stint_jobs: &[u64],
-    stint_turns: &[u64],
-    out: &mut [u8],
-) -> Output
-    ensures { finished (written result out.new) memory.new
-        ≡ finish_answer r memory.old (lists jobs.now stint_jobs.now stint_turns.now)
-        out.old }
+// Answers the input that a reader has read: how much of the buffer the answer takes up.
+#[tactic(auto, unfolding(crate::specs::Finish::finish_answer))]
+pub fn finish(reader: Reader, lent: &mut Lent, out: &mut [u8]) -> Result<usize, Refusal>
+    ensures within { IfOk result (λ n. n ≤ length out.new) }
+    ensures answered { finished (written result out.new) lent.new.memory.now
+        ≡ finish_answer reader lent.old.memory.now (lists_in lent.old) out.old }
+    ensures same_lists { lists_in lent.new ≡ lists_in lent.old }
+    ensures same { SameLent lent.old lent.new }
 {
-    match reader_verdict(r, &*memory, jobs, stint_jobs, stint_turns) {
-        Verdict::Accepted => {
-            answer_input(r, &mut *memory, jobs, stint_jobs, stint_turns, &mut *out)
-        }
-        Verdict::Refused(x) => Output::Refused(x),
-    }
+    reader.verdict(lent)?;
+    let memory = &mut *lent.memory;
+    let jobs = &mut *lent.jobs;
+    let stint_jobs = &mut *lent.stint_jobs;
+    let stint_turns = &mut *lent.stint_turns;
+    answer_input(reader, memory, jobs, stint_jobs, stint_turns, out)
 }

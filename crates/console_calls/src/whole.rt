@@ -3,25 +3,25 @@ ghost use Rattle.std.specs.Prelude.{◌≡◌};
 ghost use Rattle.console_calls.specs.Console.{output_of};
 ghost use Rattle.console_calls.specs.Finish.{written, written_to};
 
-use super::finish::{Output, finish};
+use super::finish::finish;
+use base_outcome::refusal::Refusal;
+use console_grammar::lent::Lent;
 use console_grammar::progress::{JOB_ENTRIES, STINT_ENTRIES};
-use console_reader::reader::{MEMORY_WORDS, feed, start};
+use console_reader::reader::{MEMORY_WORDS, Reader};
 
-pub fn answer(input: &[u8], out: &mut [u8]) -> Output
+pub fn answer(input: &[u8], out: &mut [u8]) -> Result<usize, Refusal>
     ensures { written result out.new ≡ written_to (output_of input.now) out.old }
 {
-    let mut memory = [0u64; MEMORY_WORDS];
-    let mut jobs = [0u64; JOB_ENTRIES];
-    let mut stint_jobs = [0u64; STINT_ENTRIES];
-    let mut stint_turns = [0u64; STINT_ENTRIES];
-    let fed = feed(
-        start(),
-        input,
-        &mut memory,
-        &mut jobs,
-        &mut stint_jobs,
-        &mut stint_turns,
-    );
-    let r = fed.reader;
-    finish(r, &mut memory, &jobs, &stint_jobs, &stint_turns, &mut *out)
+    let mut memory = [0; MEMORY_WORDS];
+    let mut jobs = [0; JOB_ENTRIES];
+    let mut stint_jobs = [0; STINT_ENTRIES];
+    let mut stint_turns = [0; STINT_ENTRIES];
+    let mut lent = Lent {
+        memory: &mut memory,
+        jobs: &mut jobs,
+        stint_jobs: &mut stint_jobs,
+        stint_turns: &mut stint_turns,
+    };
+    let reader = Reader::new().feed(input, &mut lent)?;
+    finish(reader, &mut lent, out)
 }

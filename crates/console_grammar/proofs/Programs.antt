@@ -1,4 +1,5 @@
 -- The lines of a program are read: each finds the part that it may follow.
+use Rattle.std.specs.Prelude.{Option, Some}
 use mathlib.Core.List.{List, [], ◌∷◌, ◌++◌, append_assoc, cons≢nil}
 use Rattle.std.specs.Prelude.{◌≡◌, refl, ℕ, suc, ◌+◌, ◌≤◌, ◌<◌, length}
 use Rattle.std.proofs.Common.{sym, ap, subst, ◌∙◌, arith, lt-ltb, le-leb, length-set}
@@ -10,12 +11,12 @@ use Rattle.console_grammar.specs.Grammar.{Block, StintLine, Program, word_lines,
 use Rattle.console_grammar.specs.Laws.Follow.{all_lines, rest_lines, Ends, MayFollow, asked, asked-none, with_word, asked-word, asked-job, asked-stint, zeroed}
 
 -- the lines are read after r, and ask for q
-pub record Reads (r : Reading) (ls : List Line) (q : Request) : Type 0 where
+pub record Reads (r : Reading) (ls : List (Option Line)) (q : Request) : Type 0 where
   pub part : Part
   pub is : all_lines r ls ≡ readable part q
 
 -- one line, then the others
-reads-next : {r s : Reading} {line : Line} {ls : List Line} {p q : Request} → line_to r line ≡ s → p ≡ q → Reads s ls p
+reads-next : {r s : Reading} {line : Option Line} {ls : List (Option Line)} {p q : Request} → line_to r line ≡ s → p ≡ q → Reads s ls p
     → Reads r (line ∷ ls) q
 unfolding all_lines
 reads-next {ls = ls} e f x =
@@ -27,7 +28,7 @@ stints-read [] part q = record { part = part; is = ap (λ (p : Request). readabl
 stints-read (s ∷ ss) part q = reads-next refl (asked-stint part q s ss) (stints-read ss in_stints (with_stint q s.job s.turns))
 
 takes-job : (part : Part) (q : Request) (n a : ℕ) (js : List ℕ) → MayFollow part n [] [] (a ∷ js)
-    → line_to (readable part q) (Job a) ≡ readable in_jobs (with_job q a)
+    → line_to (readable part q) (Some (Job a)) ≡ readable in_jobs (with_job q a)
 unfolding line_to job_to
 takes-job after_words q n a js h = refl
 takes-job (in_block b e) q n a js h = refl
@@ -42,7 +43,7 @@ jobs-read (a ∷ js) ss part q n h =
 
 -- at= of a block is read after a part that the block may follow
 record TakesAt (part : Part) (q : Request) (n : ℕ) (b : Block) (bs : List Block) : Type 0 where
-  is : line_to (readable part q) (At b.at) ≡ readable (in_block b.at b.at) q
+  is : line_to (readable part q) (Some (At b.at)) ≡ readable (in_block b.at b.at) q
   ends : Ends b.at (block_end b) n bs
 
 takes_at : (part : Part) (q : Request) (n : ℕ) (b : Block) (bs : List Block) (js : List ℕ) → length q.memory ≡ n
@@ -59,7 +60,7 @@ takes_at in_jobs q n b bs js l h = absurd (cons≢nil h.1)
 takes_at in_stints q n b bs js l h = absurd (cons≢nil h.1.0)
 
 takes-word : (q : Request) (n b e w : ℕ) → length q.memory ≡ n → e < n
-    → line_to (readable (in_block b e) q) (Word w) ≡ readable (in_block b (e + 1)) (with_word q e w)
+    → line_to (readable (in_block b e) q) (Some (Word w)) ≡ readable (in_block b (e + 1)) (with_word q e w)
 unfolding line_to word_to
 takes-word q n b e w l h = rw (l, lt-ltb e n h)
 
@@ -86,7 +87,7 @@ blocks-read (b ∷ bs) js ss part q n l h =
     (reads-next t.is refl
     (words-read n b.at bs js ss b.content (λ e p k f. blocks-read bs js ss (in_block b.at e) p n k f) b.at q l t.ends))
 
-takes-words : (n : ℕ) → 1 ≤ n → n ≤ 0o10000 → line_to no_line (Words n) ≡ readable after_words (zeroed n)
+takes-words : (n : ℕ) → 1 ≤ n → n ≤ 0o10000 → line_to no_line (Some (Words n)) ≡ readable after_words (zeroed n)
 unfolding line_to words_to
 takes-words n l h = rw (le-leb 1 n l, le-leb n 0o10000 h)
 

@@ -1,4 +1,5 @@
 -- What a line puts in the store is read from it again, and the store keeps its room.
+use Rattle.std.specs.Prelude.{Option, Some, None}
 use Rattle.std.specs.Prelude.{Bool, ◌&&◌, cond, List, ◌≡◌, refl, ℕ, ◌≤◌, leb, ltb, length, take, drop}
 use Rattle.std.proofs.Common.{◌∙◌, arith, leb-true, length-append, length-take, length-set, length-drop, length-take-le}
 use Rattle.std.proofs.Math.Nat.{min-le_left}
@@ -7,7 +8,7 @@ use Rattle.std.proofs.Math.Seq.{take-append_seam}
 use Rattle.base_logic.specs.Laws.Choice.{of-cond}
 use Rattle.base_logic.specs.Laws.Tests.{both}
 use Rattle.console_line.specs.declared.form.Line.{Line}
-use Rattle.console_line.specs.declared.form.Line.TheVariants.{Words, At, Word, Job, Stint, Unreadable}
+use Rattle.console_line.specs.declared.form.Line.TheVariants.{Words, At, Word, Job, Stint}
 use Rattle.console_grammar.specs.Reading.{Request, Part, Reading, no_line, readable, unreadable, after_words, in_block, in_jobs, in_stints, words_to, at_to, word_to, job_to, with_stint, line_to}
 use Rattle.console_grammar.specs.Held.{Lists, in_use, reading_at, held, CountsFit, Room, firsts, keep, job_entries, stint_entries}
 use Rattle.console_grammar.specs.Store.{InputStore, input_store, over, kind_of, store_reading, store_line}
@@ -73,25 +74,25 @@ sized-job in_stints q a k = tt
 sized-stint : (q : Request) (job turns : ℕ) → Sized q → Sized (with_stint q job turns)
 sized-stint q job turns k = record { memory = k.memory; even = simp length-append (omega (arith, k.even)) }
 
-sized-next : (part : Part) (q : Request) (line : Line) → Sized q → SizedReading (line_to (readable part q) line)
+sized-next : (part : Part) (q : Request) (line : Option Line) → Sized q → SizedReading (line_to (readable part q) line)
 unfolding line_to
-sized-next part q (Words n) k = tt
-sized-next part q (At a) k = sized-begin part q a k
-sized-next part q (Word w) k = sized-word part q w k
-sized-next part q (Job a) k = sized-job part q a k
-sized-next part q (Stint job turns) k = sized-stint q job turns k
-sized-next part q Unreadable k = tt
+sized-next part q (Some (Words n)) k = tt
+sized-next part q (Some (At a)) k = sized-begin part q a k
+sized-next part q (Some (Word w)) k = sized-word part q w k
+sized-next part q (Some (Job a)) k = sized-job part q a k
+sized-next part q (Some (Stint job turns)) k = sized-stint q job turns k
+sized-next part q None k = tt
 
-sized-first : (line : Line) → SizedReading (line_to no_line line)
+sized-first : (line : Option Line) → SizedReading (line_to no_line line)
 unfolding line_to
-sized-first (Words n) = sized-words n
-sized-first (At a) = tt
-sized-first (Word w) = tt
-sized-first (Job a) = tt
-sized-first (Stint job turns) = tt
-sized-first Unreadable = tt
+sized-first (Some (Words n)) = sized-words n
+sized-first (Some (At a)) = tt
+sized-first (Some (Word w)) = tt
+sized-first (Some (Job a)) = tt
+sized-first (Some (Stint job turns)) = tt
+sized-first None = tt
 
-sized-line : (x : Reading) (line : Line) → SizedReading x → SizedReading (line_to x line)
+sized-line : (x : Reading) (line : Option Line) → SizedReading x → SizedReading (line_to x line)
 unfolding line_to
 sized-line no_line line k = sized-first line
 sized-line (readable part q) line k = sized-next part q line k
@@ -164,7 +165,7 @@ in-use-sized p m l k room =
     }
 
 -- after a line the store holds what the lines ask for
-pub line-held : (p : Progress) (m : List ℕ) (l : Lists) (line : Line) → CountsFit p → Room m l
+pub line-held : (p : Progress) (m : List ℕ) (l : Lists) (line : Option Line) → CountsFit p → Room m l
     → Holds (store_line (input_store p m l) line) (keep (line_to (held p m l) line))
 unfolding store_line
 line-held p m l line k room =

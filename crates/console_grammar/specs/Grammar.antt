@@ -1,4 +1,5 @@
 -- The inputs that are readable, as document 01 lists their lines.
+use Rattle.std.specs.Prelude.{Option, Some}
 use Rattle.std.specs.Prelude.{List, [], ◌∷◌, ◌++◌, map, ◌≡◌, ℕ, ◌+◌, ◌≤◌, ◌<◌, length, replicate}
 use Rattle.std.proofs.lemmas.List.Edits.{sets}
 use Rattle.console_line.specs.Form.{line_of}
@@ -23,21 +24,21 @@ pub record Program : Type 0 where
 
 -- "lines in this order: one words= (1 to 10000), any blocks of one at= (address) and its word= lines (none or more, 20 digits),
 -- any job= (package address), any stint=job,turns"
-abbrev pub word_lines : List ℕ → List Line
-word_lines ws = map (λ (w : ℕ). Word w) ws
+abbrev pub word_lines : List ℕ → List (Option Line)
+word_lines ws = map (λ (w : ℕ). Some (Word w)) ws
 
-abbrev pub block_lines : List Block → List Line
+abbrev pub block_lines : List Block → List (Option Line)
 block_lines [] = []
-block_lines (b ∷ bs) = At b.at ∷ (word_lines b.content ++ block_lines bs)
+block_lines (b ∷ bs) = Some (At b.at) ∷ (word_lines b.content ++ block_lines bs)
 
-abbrev pub job_lines : List ℕ → List Line
-job_lines jobs = map (λ (a : ℕ). Job a) jobs
+abbrev pub job_lines : List ℕ → List (Option Line)
+job_lines jobs = map (λ (a : ℕ). Some (Job a)) jobs
 
-abbrev pub stint_lines : List StintLine → List Line
-stint_lines stints = map (λ (s : StintLine). Stint s.job s.turns) stints
+abbrev pub stint_lines : List StintLine → List (Option Line)
+stint_lines stints = map (λ (s : StintLine). Some (Stint s.job s.turns)) stints
 
-abbrev pub program_lines : Program → List Line
-program_lines d = Words d.words ∷ (block_lines d.blocks ++ (job_lines d.jobs ++ stint_lines d.stints))
+abbrev pub program_lines : Program → List (Option Line)
+program_lines d = Some (Words d.words) ∷ (block_lines d.blocks ++ (job_lines d.jobs ++ stint_lines d.stints))
 
 -- no block "begins at or below the block before it or below that block's end", of which the address where it begins and the one after
 -- its last word are given

@@ -5,5 +5,6 @@ pub mod Reading
 pub mod Grammar
 pub mod Held
 pub mod Store
+pub mod Lent
 pub mod Applied
 pub mod Laws

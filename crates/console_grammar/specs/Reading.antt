@@ -1,8 +1,9 @@
 -- What the lines of an input ask for, read in order.
+use Rattle.std.specs.Prelude.{Option, Some, None}
 use Rattle.std.specs.Prelude.{◌&&◌, cond, List, [], ◌∷◌, ◌++◌, ℕ, ◌+◌, leb, ltb, length, set, replicate}
 use Rattle.console_line.specs.Form.{line_of}
 use Rattle.console_line.specs.declared.form.Line.{Line}
-use Rattle.console_line.specs.declared.form.Line.TheVariants.{Words, At, Word, Job, Stint, Unreadable}
+use Rattle.console_line.specs.declared.form.Line.TheVariants.{Words, At, Word, Job, Stint}
 use Rattle.console_grammar.specs.Lines.{lines_of}
 
 -- the memory, the jobs by the addresses of their packages, the stints by job and turns
@@ -66,23 +67,23 @@ abbrev pub with_stint : Request → ℕ → ℕ → Request
 with_stint q job turns = request q.memory q.jobs (q.stint_jobs ++ (job ∷ [])) (q.stint_turns ++ (turns ∷ []))
 
 -- a line after readable lines
-abbrev pub next_to : Part → Request → Line → Reading
-next_to part q (Words n) = unreadable
-next_to part q (At a) = at_to part q a
-next_to part q (Word w) = word_to part q w
-next_to part q (Job a) = job_to part q a
-next_to part q (Stint job turns) = readable in_stints (with_stint q job turns)
-next_to part q Unreadable = unreadable
+abbrev pub next_to : Part → Request → Option Line → Reading
+next_to part q (Some (Words n)) = unreadable
+next_to part q (Some (At a)) = at_to part q a
+next_to part q (Some (Word w)) = word_to part q w
+next_to part q (Some (Job a)) = job_to part q a
+next_to part q (Some (Stint job turns)) = readable in_stints (with_stint q job turns)
+next_to part q None = unreadable
 
-abbrev pub first_to : Line → Reading
-first_to (Words n) = words_to n
-first_to (At a) = unreadable
-first_to (Word w) = unreadable
-first_to (Job a) = unreadable
-first_to (Stint job turns) = unreadable
-first_to Unreadable = unreadable
+abbrev pub first_to : Option Line → Reading
+first_to (Some (Words n)) = words_to n
+first_to (Some (At a)) = unreadable
+first_to (Some (Word w)) = unreadable
+first_to (Some (Job a)) = unreadable
+first_to (Some (Stint job turns)) = unreadable
+first_to None = unreadable
 
-unfoldable pub line_to : Reading → Line → Reading
+unfoldable pub line_to : Reading → Option Line → Reading
 line_to no_line line = first_to line
 line_to (readable part q) line = next_to part q line
 line_to unreadable line = unreadable

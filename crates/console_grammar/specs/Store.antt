@@ -1,4 +1,5 @@
 -- What a line leaves in the lent memory and lists: every word and every entry, of every line.
+use Rattle.std.specs.Prelude.{Option}
 use Rattle.std.specs.Prelude.{List, ◌++◌, ℕ, length, drop}
 use Rattle.console_line.specs.declared.form.Line.{Line}
 use Rattle.console_grammar.specs.Reading.{Request, Part, Reading, no_line, readable, unreadable, after_words, in_block, in_jobs, in_stints, line_to}
@@ -40,5 +41,5 @@ store_reading (readable part q) m l =
 store_reading unreadable m l = input_store unreadable_progress m l
 
 -- one line: what the lines so far ask for is read from the store, and what they ask for with this one is put there
-unfoldable pub store_line : InputStore → Line → InputStore
+unfoldable pub store_line : InputStore → Option Line → InputStore
 store_line s line = store_reading (keep (line_to (held s.progress s.memory s.lists) line)) s.memory s.lists

@@ -2,7 +2,4 @@
 #![tactic(auto)]
 
 pub mod form;
-mod one_value;
-mod text;
-mod two_values;
 mod value;

@@ -17,10 +17,10 @@ module _ (bytes : List ℕ) (from : ℕ) (line₀ : List ℕ) (n₀ : ℕ) where
     unfolding FillingOn
     line_feed g h e = filled-to-line-feed g h e
 
-    pub to_end : FillingOn bytes from line₀ n₀ at line n → length bytes ≤ at
-        → LineFilled bytes from line₀ n₀ line (record { at = at; length = n })
+    pub to_end : (end : ℕ) → FillingOn bytes from line₀ n₀ at line n → length bytes ≤ at → end ≡ at
+        → LineFilled bytes from line₀ n₀ line (record { at = end; length = n })
     unfolding FillingOn
-    to_end g h = filled-to-end g h
+    to_end end g h e = rw e (filled-to-end g h)
 
     pub byte_kept : FillingOn bytes from line₀ n₀ at line n → at < length bytes → (get_or bytes at 0 ≡ 10 → ⊥) → n < 32
         → FillingOn bytes from line₀ n₀ (at + 1) (set line n (get_or bytes at 0)) (n + 1)

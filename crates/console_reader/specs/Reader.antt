@@ -1,10 +1,10 @@
 -- The console's input, byte by byte: what a reader and the lent memory and lists hold after it.
-use Rattle.std.specs.Prelude.{Bool, true, false, ◌&&◌, cond, List, [], ◌∷◌, ℕ, eqb, leb, length, take, replicate}
+use Rattle.std.specs.Prelude.{Bool, true, false, ◌&&◌, cond, List, [], ◌∷◌, ℕ, eqb, leb, length, take, replicate, Result, Ok, Err}
 use Rattle.base_outcome.specs.Numbers.{verdict_number}
 use Rattle.base_outcome.specs.Order.{or_else}
+use Rattle.base_outcome.specs.declared.refusal.Refusal as Reason
 use Rattle.base_outcome.specs.declared.refusal.Refusal.TheVariants as Refusal
-use Rattle.base_outcome.specs.declared.refusal.Verdict.{Verdict}
-use Rattle.base_outcome.specs.declared.refusal.Verdict.TheVariants as Call
+use Rattle.base_outcome.specs.Verdict.{Verdict}
 use Rattle.console_line.specs.Form.{line_of}
 use Rattle.console_grammar.specs.Reading.{Reading, ended}
 use Rattle.console_grammar.specs.Held.{Lists, held, job_entries, stint_entries}
@@ -14,7 +14,6 @@ use Rattle.console_grammar.specs.declared.progress.Part.TheVariants as Last
 use Rattle.console_grammar.specs.declared.progress.Progress.{Progress}
 use Rattle.console_reader.specs.LineBytes.{BegunLine, begun_line, keep_byte}
 use Rattle.console_reader.specs.declared.reader.Reader.{Reader}
-use Rattle.console_reader.specs.declared.reader.FeedAnswer.{FeedAnswer}
 
 -- the reader, and the memory and lists that are lent to it
 pub record ReaderState : Type 0 where
@@ -68,27 +67,30 @@ reader_fits r =
 -- room is 5, lists of other lengths are 6
 unfoldable pub reader_verdict : Reader → List ℕ → Lists → Verdict
 reader_verdict r m l =
-    or_else (cond (eqb (length m) 0o10000) Call.Accepted (Call.Refused Refusal.CentralLength))
-    (or_else (cond (reader_fits r) Call.Accepted (Call.Refused Refusal.RecordValue))
-    (cond (lists_long l) Call.Accepted (Call.Refused Refusal.ListLength)))
+    or_else (cond (eqb (length m) 0o10000) (Ok tt) (Err Refusal.CentralLength))
+    (or_else (cond (reader_fits r) (Ok tt) (Err Refusal.RecordValue))
+    (cond (lists_long l) (Ok tt) (Err Refusal.ListLength)))
 
--- what the host gets back: the verdict's number, the verdict with the reader, the memory and the lists
+-- what the host gets back: the verdict's number, the verdict, the reader, the memory and the lists
 pub record FeedAnswered : Type 0 where
   pub number : ℕ
-  pub answer : FeedAnswer
+  pub verdict : Verdict
+  pub reader : Reader
   pub memory : List ℕ
   pub lists : Lists
 
-abbrev pub feed_answer_to : List ℕ → Lists → FeedAnswer → FeedAnswered
-feed_answer_to m l a = record { number = verdict_number a.verdict; answer = a; memory = m; lists = l }
-
 abbrev pub feed_answered : Verdict → ReaderState → FeedAnswered
-feed_answered v s = feed_answer_to s.memory s.lists (record { verdict = v; reader = s.reader })
+feed_answered v s = record { number = verdict_number v; verdict = v; reader = s.reader; memory = s.memory; lists = s.lists }
+
+-- of a refused reader the host has the one that it gave
+abbrev pub feed_answer_to : Reader → List ℕ → Lists → Result Reader Reason.Refusal → FeedAnswered
+feed_answer_to given m l (Ok r) = feed_answered (Ok tt) (reader_state r m l)
+feed_answer_to given m l (Err x) = feed_answered (Err x) (reader_state given m l)
 
 -- "After a refusal the state comes back equal"
 abbrev pub feed_answer_by : Verdict → ReaderState → ReaderState → FeedAnswered
-feed_answer_by Call.Accepted given after = feed_answered Call.Accepted after
-feed_answer_by (Call.Refused x) given after = feed_answered (Call.Refused x) given
+feed_answer_by (Ok _) given after = feed_answered (Ok tt) after
+feed_answer_by (Err x) given after = feed_answered (Err x) given
 
 -- the next bytes of an input
 unfoldable pub feed_answer : ReaderState → List ℕ → FeedAnswered

@@ -15,18 +15,19 @@ pub(crate) fn fill(line: &mut [u8; 32], begun: usize, bytes: &[u8], from: usize)
     requires { (begun ≤ 32) × (length line.old ≡ 32) }
     ensures { LineFilled bytes.now from line.old begun line.new result }
 {
-    let mut at = from;
     let mut n = begun;
-    while at < bytes.len() {
+    for at in from..bytes.len() {
         let byte = bytes[at];
         if byte == b'\n' {
             return Filled { at, length: n };
         }
-        at = at + 1;
         if n < 32 {
             line[n] = byte;
-            n = n + 1;
+            n += 1;
         }
     }
-    Filled { at, length: n }
+    Filled {
+        at: from.max(bytes.len()),
+        length: n,
+    }
 }

@@ -1,7 +1,9 @@
 // Why the input that a tracker has read is refused.
-ghost use Rattle.std.specs.Prelude.{◌≡◌, ◌≤◌, length};
+ghost use Rattle.std.specs.Prelude.{IfOk, ◌≡◌, ◌+◌, ◌≤◌, length};
 ghost use Rattle.base_lists.specs.Written.{Wrote};
-ghost use Rattle.console_grammar.specs.Held.{lists, in_use, CountsFit, Room};
+ghost use Rattle.word_octal.specs.Writes.{Writes};
+ghost use Rattle.console_grammar.specs.Held.{in_use, CountsFit, Room};
+ghost use Rattle.console_grammar.specs.Lent.{lists_in};
 ghost use Rattle.console_reader.specs.Fed.{ReaderReady};
 ghost use Rattle.console_unreadable.specs.Tracker.{found_by};
 ghost use Rattle.console_calls.specs.Finish.{written};
@@ -9,98 +11,76 @@ ghost use Rattle.console_reason.specs.Reason.{most_reason_bytes, reason_by, reas
 
 use super::fault::write_finding;
 use super::line::write_unreadable;
-use base_outcome::refusal::{Refusal, Verdict};
-use console_calls::finish::Output;
+use base_outcome::refusal::Refusal;
 use console_calls::run::zero_record;
+use console_grammar::lent::Lent;
 use console_grammar::progress::Progress;
-use console_reader::reader::reader_verdict;
-use console_unreadable::tracker::{Found, Tracker, found_at_end};
+use console_unreadable::tracker::{Tracker, UnreadableLine};
 use shared_fault::finding::find_fault;
+use word_octal::write::Writer;
 
 // The room that every reason fits in: a line of a refusal, and two lines of the longest name and 22 digits.
 pub const REASON_BYTES: usize = 73;
 
 // Names the unreadable line, or what is wrong with the schedule.
-fn write_reason(
-    found: Found,
-    p: Progress,
-    memory: &[u64],
-    jobs: &[u64],
-    stint_jobs: &[u64],
-    stint_turns: &[u64],
-    out: &mut [u8],
-) -> usize
-    requires { CountsFit p × Room memory.now (lists jobs.now stint_jobs.now stint_turns.now) × (most_reason_bytes ≤ length out.old) }
-    ensures { Wrote out.old 0
-        (reason_by found (in_use p memory.now (lists jobs.now stint_jobs.now stint_turns.now)))
-        out.new result }
+fn write_reason(writer: &mut Writer, found: Option<UnreadableLine>, progress: Progress, lent: &Lent)
+    requires { CountsFit progress × Room lent.now.memory.now (lists_in lent.now) × (writer.old.at + most_reason_bytes ≤ length writer.old.out.now) }
+    ensures { Writes writer.old (reason_by found (in_use progress lent.now.memory.now (lists_in lent.now))) writer.new }
 {
     match found {
-        Found::Line(n, rule) => write_unreadable(&mut *out, 0, n, rule),
-        Found::Nothing => {
-            let words = p.words;
-            let listed = p.jobs;
-            let stints = p.stints;
+        Some(line) => write_unreadable(writer, line),
+        None => {
+            let words = progress.words;
+            let jobs = progress.jobs;
+            let stints = progress.stints;
             let finding = find_fault(
-                &memory[..words],
+                &lent.memory[..words],
                 zero_record(),
-                &jobs[..listed],
-                &stint_jobs[..stints],
-                &stint_turns[..stints],
+                &lent.jobs[..jobs],
+                &lent.stint_jobs[..stints],
+                &lent.stint_turns[..stints],
             );
-            write_finding(&mut *out, 0, finding)
+            write_finding(writer, finding);
         }
     }
 }
 
-// Explains the input of a reader that no number refuses.
-fn explain_input(
-    t: Tracker,
-    memory: &[u64],
-    jobs: &[u64],
-    stint_jobs: &[u64],
-    stint_turns: &[u64],
+fn print_reason(
+    found: Option<UnreadableLine>,
+    progress: Progress,
+    lent: &Lent,
     out: &mut [u8],
-) -> Output
-    requires { ReaderReady t.reader memory.now (lists jobs.now stint_jobs.now stint_turns.now) }
+) -> usize
+    requires { CountsFit progress × Room lent.now.memory.now (lists_in lent.now) × (most_reason_bytes ≤ length out.old) }
+    ensures { Wrote out.old 0
+        (reason_by found (in_use progress lent.now.memory.now (lists_in lent.now)))
+        out.new result }
+{
+    let mut writer = Writer { out, at: 0 };
+    write_reason(&mut writer, found, progress, lent);
+    writer.at
+}
+
+// Explains the input of a reader that no number refuses.
+fn explain_input(tracker: Tracker, lent: &Lent, out: &mut [u8]) -> Result<usize, Refusal>
+    requires { ReaderReady tracker.reader lent.now.memory.now (lists_in lent.now) }
     ensures { written result out.new
-        ≡ reason_to (reason_by (found_by t) (in_use t.reader.progress memory.now (lists jobs.now stint_jobs.now stint_turns.now)))
+        ≡ reason_to (reason_by (found_by tracker) (in_use tracker.reader.progress lent.now.memory.now (lists_in lent.now)))
         out.old }
 {
     if out.len() < REASON_BYTES {
-        return Output::Refused(Refusal::ListLength);
+        return Err(Refusal::ListLength);
     }
-    let found = found_at_end(t);
-    let reader = t.reader;
-    let progress = reader.progress;
-    let n = write_reason(
-        found,
-        progress,
-        memory,
-        jobs,
-        stint_jobs,
-        stint_turns,
-        &mut *out,
-    );
-    Output::Bytes(n)
+    let found = tracker.found_at_end();
+    Ok(print_reason(found, tracker.reader.progress, lent, out))
 }
 
-// Says why the input that a tracker has read is refused; 0 where it is not.
-pub fn explain(
-    t: Tracker,
-    memory: &[u64],
-    jobs: &[u64],
-    stint_jobs: &[u64],
-    stint_turns: &[u64],
-    out: &mut [u8],
-) -> Output
-    ensures { written result out.new
-        ≡ explain_answer t memory.now (lists jobs.now stint_jobs.now stint_turns.now)
-        out.old }
+// Says why the input that a tracker has read is refused; 0 where it is not. How much of the buffer that takes up is the answer.
+#[tactic(auto, unfolding(crate::specs::Reason::explain_answer))]
+pub fn explain(tracker: Tracker, lent: &Lent, out: &mut [u8]) -> Result<usize, Refusal>
+    ensures within { IfOk result (λ n. n ≤ length out.new) }
+    ensures explained { written result out.new ≡ explain_answer tracker lent.now.memory.now (lists_in lent.now) out.old }
 {
-    let reader = t.reader;
-    match reader_verdict(reader, memory, jobs, stint_jobs, stint_turns) {
-        Verdict::Accepted => explain_input(t, memory, jobs, stint_jobs, stint_turns, &mut *out),
-        Verdict::Refused(x) => Output::Refused(x),
-    }
+    tracker.reader.verdict(lent)?;
+    explain_input(tracker, lent, out)
 }

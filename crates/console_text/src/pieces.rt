@@ -1,97 +1,65 @@
-// The pieces of the answer's lines. Each is written from a place on, and the place after it is the result.
+// The pieces of the answer's lines, which a writer puts where it stands.
 ghost use Rattle.std.specs.Prelude.{◌≡◌, ◌+◌, ◌≤◌, length, drop};
 ghost use Rattle.word_octal.specs.Write.{octal};
-ghost use Rattle.base_lists.specs.Written.{Wrote};
-ghost use Rattle.console_text.specs.Line.{decimal_in, decimal, decimal_number, line};
+ghost use Rattle.word_octal.specs.Writes.{Writes};
+ghost use Rattle.console_text.specs.Line.{decimal_in, line};
 
-use word_octal::write::write_octal;
-
-// Bytes as they are.
-pub fn write_text(out: &mut [u8], at: usize, text: &[u8]) -> usize
-    requires { at + length text.now ≤ length out.old }
-    ensures { Wrote out.old at text.now out.new result }
-{
-    let mut i: usize = 0;
-    while i < text.len() {
-        out[at + i] = text[i];
-        i = i + 1;
-    }
-    at + i
-}
+use word_octal::write::Writer;
 
 // Fills a buffer from its end with the decimal digits of v, the last of them where it has no room for all: where the first stands.
 fn decimal_digits(buffer: &mut [u8], v: u64) -> usize
     ensures { (result ≤ length buffer.new) × (drop result buffer.new ≡ decimal_in (length buffer.old) v) }
 {
-    let mut at: usize = buffer.len();
     let mut rest = v;
-    while 0 < at {
-        at = at - 1;
-        buffer[at] = b'0' + ((rest % 10) as u8);
-        rest = rest / 10;
+    for at in (0..buffer.len()).rev() {
+        buffer[at] = b'0' + (rest % 10) as u8;
+        rest /= 10;
         if rest == 0 {
             return at;
         }
     }
-    at
+    0
 }
 
-// The last two decimal digits of n, or the one that it has.
-pub fn write_decimal(out: &mut [u8], at: usize, n: u64) -> usize
-    requires { at + 2 ≤ length out.old }
-    ensures { Wrote out.old at (decimal n) out.new result }
+// The last N decimal digits of v, or the fewer that it has.
+pub fn write_decimal<const N: usize>(writer: &mut Writer, v: u64)
+    requires { writer.old.at + N ≤ length writer.old.out.now }
+    ensures { Writes writer.old (decimal_in N v) writer.new }
 {
-    let mut buffer = [0u8; 2];
-    let first = decimal_digits(&mut buffer, n);
-    write_text(&mut *out, at, &buffer[first..])
-}
-
-// All decimal digits of n.
-fn write_decimal_number(out: &mut [u8], at: usize, n: u64) -> usize
-    requires { at + 20 ≤ length out.old }
-    ensures { Wrote out.old at (decimal_number n) out.new result }
-{
-    let mut buffer = [0u8; 20];
-    let first = decimal_digits(&mut buffer, n);
-    write_text(&mut *out, at, &buffer[first..])
+    let mut buffer = [0u8; N];
+    let digits = &mut buffer[..];
+    let first = decimal_digits(digits, v);
+    writer.text(&digits[first..]);
 }
 
 // The line of a name, with its equals sign, and a value in octal digits.
-pub fn write_octal_line(out: &mut [u8], at: usize, name: &[u8], value: u64) -> usize
-    requires { at + length name.now + 23 ≤ length out.old }
-    ensures { Wrote out.old at (line name.now (octal value)) out.new result }
+#[tactic(auto, using(word_octal::specs::Laws::Write::length_octal))]
+pub fn write_octal_line(writer: &mut Writer, name: &[u8], value: u64)
+    requires { writer.old.at + length name.now + 23 ≤ length writer.old.out.now }
+    ensures { Writes writer.old (line name.now (octal value)) writer.new }
 {
-    let value_at = write_text(&mut *out, at, name);
-    let end = write_octal(&mut *out, value_at, value);
-    write_text(&mut *out, end, b"\n")
+    writer.text(name);
+    writer.octal(value);
+    writer.text(b"\n");
 }
 
-// The line of a name, with its equals sign, and a value in decimal digits.
-pub fn write_decimal_line(out: &mut [u8], at: usize, name: &[u8], value: u64) -> usize
-    requires { at + length name.now + 3 ≤ length out.old }
-    ensures { Wrote out.old at (line name.now (decimal value)) out.new result }
+// The line of a name, with its equals sign, and the last N decimal digits of a value, or the fewer that it has.
+#[tactic(auto, using(crate::specs::Laws::Decimal::length_decimal))]
+pub fn write_decimal_line<const N: usize>(writer: &mut Writer, name: &[u8], value: u64)
+    requires { writer.old.at + length name.now + N + 1 ≤ length writer.old.out.now }
+    ensures { Writes writer.old (line name.now (decimal_in N value)) writer.new }
 {
-    let value_at = write_text(&mut *out, at, name);
-    let end = write_decimal(&mut *out, value_at, value);
-    write_text(&mut *out, end, b"\n")
-}
-
-// The line of a name, with its equals sign, and all decimal digits of a value.
-pub fn write_number_line(out: &mut [u8], at: usize, name: &[u8], value: u64) -> usize
-    requires { at + length name.now + 21 ≤ length out.old }
-    ensures { Wrote out.old at (line name.now (decimal_number value)) out.new result }
-{
-    let value_at = write_text(&mut *out, at, name);
-    let end = write_decimal_number(&mut *out, value_at, value);
-    write_text(&mut *out, end, b"\n")
+    writer.text(name);
+    write_decimal::<N>(writer, value);
+    writer.text(b"\n");
 }
 
 // The line of a name, with its equals sign, and a text as its value.
-pub fn write_text_line(out: &mut [u8], at: usize, name: &[u8], value: &[u8]) -> usize
-    requires { at + length name.now + length value.now + 1 ≤ length out.old }
-    ensures { Wrote out.old at (line name.now value.now) out.new result }
+pub fn write_text_line(writer: &mut Writer, name: &[u8], value: &[u8])
+    requires { writer.old.at + length name.now + length value.now + 1 ≤ length writer.old.out.now }
+    ensures { Writes writer.old (line name.now value.now) writer.new }
 {
-    let value_at = write_text(&mut *out, at, name);
-    let end = write_text(&mut *out, value_at, value);
-    write_text(&mut *out, end, b"\n")
+    writer.text(name);
+    writer.text(value);
+    writer.text(b"\n");
 }

@@ -1,7 +1,8 @@
 -- The rule that an unreadable line breaks, by document 01, "The console program". `line_to` says which lines are unreadable.
+use Rattle.std.specs.Prelude.{Option, Some, None}
 use Rattle.std.specs.Prelude.{◌&&◌, cond, ℕ, leb, ltb}
 use Rattle.console_line.specs.declared.form.Line.{Line}
-use Rattle.console_line.specs.declared.form.Line.TheVariants.{Words, At, Word, Job, Stint, Unreadable}
+use Rattle.console_line.specs.declared.form.Line.TheVariants.{Words, At, Word, Job, Stint}
 use Rattle.console_grammar.specs.declared.progress.Part.{Part}
 use Rattle.console_grammar.specs.declared.progress.Part.TheVariants as Last
 use Rattle.console_unreadable.specs.declared.rule.Rule.{Rule}
@@ -35,10 +36,10 @@ word_rule Last.Stints = Order
 word_rule Last.Unreadable = Order
 
 -- of an unreadable line, after a line of this kind. "Any other line or order"
-abbrev pub rule_of : Part → Line → Rule
-rule_of part (Words n) = words_rule part
-rule_of part (At a) = at_rule part a
-rule_of part (Word w) = word_rule part
-rule_of part (Job a) = Order
-rule_of part (Stint job turns) = Order
-rule_of part Unreadable = Form
+abbrev pub rule_of : Part → Option Line → Rule
+rule_of part (Some (Words n)) = words_rule part
+rule_of part (Some (At a)) = at_rule part a
+rule_of part (Some (Word w)) = word_rule part
+rule_of part (Some (Job a)) = Order
+rule_of part (Some (Stint job turns)) = Order
+rule_of part None = Form

@@ -1,10 +1,10 @@
 -- The same byte by byte: what a tracker and the memory and lists that are lent to its reader hold after it.
-use Rattle.std.specs.Prelude.{Bool, true, false, cond, List, [], ◌∷◌, ℕ, ◌+◌, ◌^◌, ◌<◌, eqb, ltb, length, take}
+use Rattle.std.specs.Prelude.{Some, None, Bool, true, false, cond, List, [], ◌∷◌, ℕ, ◌+◌, ◌^◌, ◌<◌, eqb, ltb, length, take, Result, Ok, Err}
 use Rattle.base_outcome.specs.Numbers.{verdict_number}
 use Rattle.base_outcome.specs.Order.{or_else}
+use Rattle.base_outcome.specs.declared.refusal.Refusal as Reason
 use Rattle.base_outcome.specs.declared.refusal.Refusal.TheVariants as Refusal
-use Rattle.base_outcome.specs.declared.refusal.Verdict.{Verdict}
-use Rattle.base_outcome.specs.declared.refusal.Verdict.TheVariants as Call
+use Rattle.base_outcome.specs.Verdict.{Verdict}
 use Rattle.console_line.specs.Form.{line_of}
 use Rattle.console_grammar.specs.Held.{Lists}
 use Rattle.console_grammar.specs.declared.progress.Part.{Part}
@@ -14,9 +14,7 @@ use Rattle.console_reader.specs.Reader.{ReaderState, reader_state, empty_reader,
 use Rattle.console_reader.specs.declared.reader.Reader.{Reader}
 use Rattle.console_unreadable.specs.Rule.{rule_of}
 use Rattle.console_unreadable.specs.declared.rule.Rule.TheVariants.{LineFeed, Empty}
-use Rattle.console_unreadable.specs.declared.tracker.Found.{Found}
-use Rattle.console_unreadable.specs.declared.tracker.Found.TheVariants.{Nothing, Line}
-use Rattle.console_unreadable.specs.declared.tracker.TrackAnswer.{TrackAnswer}
+use Rattle.console_unreadable.specs.Unreadable.{Found, line_at}
 use Rattle.console_unreadable.specs.declared.tracker.Tracker.{Tracker}
 
 -- the tracker, and the memory and lists that are lent to its reader
@@ -33,7 +31,7 @@ abbrev pub tracker_at : ReaderState → ℕ → Found → TrackerState
 tracker_at s n f = tracker_state (record { reader = s.reader; line = n; found = f }) s.memory s.lists
 
 abbrev pub empty_tracker : Tracker
-empty_tracker = record { reader = empty_reader; line = 1; found = Nothing }
+empty_tracker = record { reader = empty_reader; line = 1; found = None }
 
 abbrev pub reader_in : TrackerState → ReaderState
 reader_in s = reader_state s.tracker.reader s.memory s.lists
@@ -54,17 +52,17 @@ begun_in s = take s.reader.length s.reader.line
 abbrev pub line_ended : ReaderState → ReaderState → ℕ → TrackerState
 line_ended before after n =
     cond (is_unreadable after.reader.progress.part)
-    (tracker_at after n (Line n (rule_of before.reader.progress.part (line_of (begun_in before)))))
-    (tracker_at after (n + 1) Nothing)
+    (tracker_at after n (Some (line_at n (rule_of before.reader.progress.part (line_of (begun_in before))))))
+    (tracker_at after (n + 1) None)
 
 -- a byte, where no unreadable line was found yet
 unfoldable pub byte_followed : ReaderState → ℕ → ℕ → TrackerState
-byte_followed s n byte = cond (eqb byte 10) (line_ended s (byte_fed s 10) n) (tracker_at (byte_fed s byte) n Nothing)
+byte_followed s n byte = cond (eqb byte 10) (line_ended s (byte_fed s 10) n) (tracker_at (byte_fed s byte) n None)
 
 -- after the first unreadable line nothing is read
 abbrev pub byte_by : Found → TrackerState → ℕ → TrackerState
-byte_by Nothing s byte = byte_followed (reader_in s) s.tracker.line byte
-byte_by (Line n rule) s byte = s
+byte_by None s byte = byte_followed (reader_in s) s.tracker.line byte
+byte_by (Some line) s byte = s
 
 abbrev pub byte_tracked : TrackerState → ℕ → TrackerState
 byte_tracked s byte = byte_by s.tracker.found s byte
@@ -77,25 +75,28 @@ bytes_tracked s (byte ∷ bytes) = bytes_tracked (byte_tracked s byte) bytes
 unfoldable pub tracker_verdict : Tracker → List ℕ → Lists → List ℕ → Verdict
 tracker_verdict t m l bytes =
     or_else (reader_verdict t.reader m l)
-    (cond (ltb (t.line + length bytes) (2 ^ 64)) Call.Accepted (Call.Refused Refusal.ListLength))
+    (cond (ltb (t.line + length bytes) (2 ^ 64)) (Ok tt) (Err Refusal.ListLength))
 
--- what the host gets back: the verdict's number, the verdict with the tracker, the memory and the lists
+-- what the host gets back: the verdict's number, the verdict, the tracker, the memory and the lists
 pub record TrackAnswered : Type 0 where
   pub number : ℕ
-  pub answer : TrackAnswer
+  pub verdict : Verdict
+  pub tracker : Tracker
   pub memory : List ℕ
   pub lists : Lists
 
-abbrev pub track_answer_to : List ℕ → Lists → TrackAnswer → TrackAnswered
-track_answer_to m l a = record { number = verdict_number a.verdict; answer = a; memory = m; lists = l }
-
 abbrev pub track_answered : Verdict → TrackerState → TrackAnswered
-track_answered v s = track_answer_to s.memory s.lists (record { verdict = v; tracker = s.tracker })
+track_answered v s = record { number = verdict_number v; verdict = v; tracker = s.tracker; memory = s.memory; lists = s.lists }
+
+-- of a refused tracker the host has the one that it gave
+abbrev pub track_answer_to : Tracker → List ℕ → Lists → Result Tracker Reason.Refusal → TrackAnswered
+track_answer_to given m l (Ok t) = track_answered (Ok tt) (tracker_state t m l)
+track_answer_to given m l (Err x) = track_answered (Err x) (tracker_state given m l)
 
 -- "After a refusal the state comes back equal"
 abbrev pub track_answer_by : Verdict → TrackerState → TrackerState → TrackAnswered
-track_answer_by Call.Accepted given after = track_answered Call.Accepted after
-track_answer_by (Call.Refused x) given after = track_answered (Call.Refused x) given
+track_answer_by (Ok _) given after = track_answered (Ok tt) after
+track_answer_by (Err x) given after = track_answered (Err x) given
 
 -- the next bytes of an input
 unfoldable pub track_answer : TrackerState → List ℕ → TrackAnswered
@@ -103,19 +104,19 @@ track_answer s bytes = track_answer_by (tracker_verdict s.tracker s.memory s.lis
 
 -- the end of the input, where no unreadable line was found: bytes of a line that has begun, or no line at all
 abbrev pub end_of_part : Part → ℕ → Found
-end_of_part Last.Start n = Line n Empty
-end_of_part Last.Words n = Nothing
-end_of_part (Last.Block begin end) n = Nothing
-end_of_part Last.Jobs n = Nothing
-end_of_part Last.Stints n = Nothing
-end_of_part Last.Unreadable n = Nothing
+end_of_part Last.Start n = Some (line_at n Empty)
+end_of_part Last.Words n = None
+end_of_part (Last.Block begin end) n = None
+end_of_part Last.Jobs n = None
+end_of_part Last.Stints n = None
+end_of_part Last.Unreadable n = None
 
 abbrev pub end_of_reader : Reader → ℕ → Found
-end_of_reader r n = cond (eqb r.length 0) (end_of_part r.progress.part n) (Line n LineFeed)
+end_of_reader r n = cond (eqb r.length 0) (end_of_part r.progress.part n) (Some (line_at n LineFeed))
 
 abbrev pub end_by : Found → Tracker → Found
-end_by Nothing t = end_of_reader t.reader t.line
-end_by (Line n rule) t = Line n rule
+end_by None t = end_of_reader t.reader t.line
+end_by (Some line) t = Some line
 
 -- what is found, if the input ends here
 abbrev pub found_by : Tracker → Found

@@ -1,5 +1,5 @@
 -- The first unreadable line of an input: by its number, from 1, and the rule that it breaks.
-use Rattle.std.specs.Prelude.{List, [], ◌∷◌, ℕ, ◌+◌, length}
+use Rattle.std.specs.Prelude.{Option, Some, None, List, [], ◌∷◌, ℕ, ◌+◌, length}
 use Rattle.console_line.specs.Form.{line_of}
 use Rattle.console_grammar.specs.Lines.{lines_of}
 use Rattle.console_grammar.specs.Reading.{Reading, no_line, readable, unreadable, line_to, all_to}
@@ -7,9 +7,17 @@ use Rattle.console_grammar.specs.Store.{kind_of}
 use Rattle.console_grammar.specs.declared.progress.Part.{Part}
 use Rattle.console_grammar.specs.declared.progress.Part.TheVariants as Last
 use Rattle.console_unreadable.specs.Rule.{rule_of}
+use Rattle.console_unreadable.specs.declared.rule.Rule.{Rule}
 use Rattle.console_unreadable.specs.declared.rule.Rule.TheVariants.{LineFeed, Empty}
-use Rattle.console_unreadable.specs.declared.tracker.Found.{Found}
-use Rattle.console_unreadable.specs.declared.tracker.Found.TheVariants.{Nothing, Line}
+use Rattle.console_unreadable.specs.declared.tracker.UnreadableLine.{UnreadableLine}
+
+-- an unreadable line, or none
+abbrev pub Found : Type 0
+Found = Option UnreadableLine
+
+-- the line with the number n, and the rule that it breaks
+abbrev pub line_at : ℕ → Rule → UnreadableLine
+line_at n rule = record { number = n; rule = rule }
 
 -- the kind of the last line of a reading
 abbrev pub last_part : Reading → Part
@@ -25,20 +33,20 @@ here_or_later (readable part q) here later = later
 
 -- in lines that follow a reading, the first of them with the number n
 unfoldable pub first_unreadable : ℕ → Reading → List (List ℕ) → Found
-first_unreadable n x [] = Nothing
+first_unreadable n x [] = None
 first_unreadable n x (text ∷ texts) =
-    here_or_later (line_to x (line_of text)) (Line n (rule_of (last_part x) (line_of text))) (first_unreadable (n + 1) (line_to x (line_of text)) texts)
+    here_or_later (line_to x (line_of text)) (Some (line_at n (rule_of (last_part x) (line_of text)))) (first_unreadable (n + 1) (line_to x (line_of text)) texts)
 
 -- at the end of the input, after lines that are readable, where the line with the number n would be: "A line feed ends each line"; "an empty input"
 abbrev pub found_at_end : ℕ → List ℕ → Reading → Found
-found_at_end n (byte ∷ rest) x = Line n LineFeed
-found_at_end n [] no_line = Line n Empty
-found_at_end n [] (readable part q) = Nothing
-found_at_end n [] unreadable = Nothing
+found_at_end n (byte ∷ rest) x = Some (line_at n LineFeed)
+found_at_end n [] no_line = Some (line_at n Empty)
+found_at_end n [] (readable part q) = None
+found_at_end n [] unreadable = None
 
 abbrev pub or_found : Found → Found → Found
-or_found Nothing later = later
-or_found (Line n rule) later = Line n rule
+or_found None later = later
+or_found (Some line) later = Some line
 
 -- in a whole input
 unfoldable pub unreadable_in : List ℕ → Found

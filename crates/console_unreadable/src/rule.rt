@@ -6,7 +6,7 @@ use console_grammar::progress::Part;
 use console_line::form::Line;
 
 // What is wrong with an unreadable line.
-#[derive(Clone, Copy)]
+#[derive(Clone, Copy, Debug, PartialEq, Eq)]
 pub enum Rule {
     // It has none of the five forms.
     Form,
@@ -29,11 +29,7 @@ fn words_rule(part: Part) -> Rule
 {
     match part {
         Part::Start => Rule::Limit,
-        Part::Words => Rule::Order,
-        Part::Block(_, _) => Rule::Order,
-        Part::Jobs => Rule::Order,
-        Part::Stints => Rule::Order,
-        Part::Unreadable => Rule::Order,
+        _ => Rule::Order,
     }
 }
 
@@ -43,18 +39,13 @@ fn at_rule(part: Part, a: u64) -> Rule
     match part {
         Part::Words => Rule::Past,
         Part::Block(begin, end) => {
-            if a <= begin {
-                return Rule::Below;
+            if a <= begin || a < end {
+                Rule::Below
+            } else {
+                Rule::Past
             }
-            if a < end {
-                return Rule::Below;
-            }
-            Rule::Past
         }
-        Part::Start => Rule::Order,
-        Part::Jobs => Rule::Order,
-        Part::Stints => Rule::Order,
-        Part::Unreadable => Rule::Order,
+        _ => Rule::Order,
     }
 }
 
@@ -63,24 +54,19 @@ fn word_rule(part: Part) -> Rule
 {
     match part {
         Part::Block(_, _) => Rule::Past,
-        Part::Start => Rule::Order,
-        Part::Words => Rule::Order,
-        Part::Jobs => Rule::Order,
-        Part::Stints => Rule::Order,
-        Part::Unreadable => Rule::Order,
+        _ => Rule::Order,
     }
 }
 
 // The rule that a line breaks, if it is unreadable after a line of this kind.
-pub fn rule_of(part: Part, line: Line) -> Rule
+pub fn rule_of(part: Part, line: Option<Line>) -> Rule
     ensures { result ≡ rule_of part line }
 {
     match line {
-        Line::Words(_) => words_rule(part),
-        Line::At(a) => at_rule(part, a),
-        Line::Word(_) => word_rule(part),
-        Line::Job(_) => Rule::Order,
-        Line::Stint(_, _) => Rule::Order,
-        Line::Unreadable => Rule::Form,
+        Some(Line::Words(_)) => words_rule(part),
+        Some(Line::At(a)) => at_rule(part, a),
+        Some(Line::Word(_)) => word_rule(part),
+        Some(Line::Job(_) | Line::Stint(_, _)) => Rule::Order,
+        None => Rule::Form,
     }
 }

@@ -1,294 +1,162 @@
 // Follows a reader line by line, up to the first line that makes the input unreadable.
 ghost use Rattle.std.specs.Prelude.{◌≡◌, ◌+◌, ◌^◌, ◌<◌, length};
-ghost use Rattle.console_grammar.specs.Held.{lists};
+ghost use Rattle.console_grammar.specs.Lent.{lists_in, SameLent};
 ghost use Rattle.console_reader.specs.Fed.{ReaderReady};
 ghost use Rattle.console_reader.specs.Reader.{reader_state, byte_fed};
 ghost use Rattle.console_unreadable.specs.Tracker.{tracker_state, empty_tracker, is_unreadable, line_ended, byte_followed, byte_tracked, bytes_tracked, tracker_verdict, track_answer_to, track_answer, end_of_reader, found_by, TrackerReady};
 
 use super::rule::{Rule, rule_of};
-use base_outcome::refusal::{Refusal, Verdict};
+use base_outcome::refusal::Refusal;
+use console_grammar::lent::Lent;
 use console_grammar::progress::Part;
 use console_line::form::line_of;
-use console_reader::reader;
-use console_reader::reader::{Reader, feed_all, reader_verdict};
+use console_reader::reader::Reader;
 
-// The first unreadable line: its number, from 1, and the rule that it breaks.
-#[derive(Clone, Copy)]
-pub enum Found {
-    Nothing,
-    Line(u64, Rule),
+// An unreadable line: its number, from 1, and the rule that it breaks.
+#[derive(Clone, Copy, Debug, PartialEq, Eq)]
+pub struct UnreadableLine {
+    pub number: u64,
+    pub rule: Rule,
 }
 
-// The reader, the number of the line that it reads, and what was found.
+// The reader, the number of the line that it reads, and the first unreadable line, if one was found.
 #[derive(Clone, Copy)]
 pub struct Tracker {
     pub reader: Reader,
     pub line: u64,
-    pub found: Found,
+    pub found: Option<UnreadableLine>,
 }
 
-// The verdict on what is lent, and the tracker.
-#[derive(Clone, Copy)]
-pub struct TrackAnswer {
-    pub verdict: Verdict,
-    pub tracker: Tracker,
-}
-
-// A tracker that has read nothing.
-pub fn start() -> Tracker
-    ensures { result ≡ empty_tracker }
+fn is_unreadable(reader: Reader) -> bool
+    ensures { result ≡ is_unreadable reader.progress.part }
 {
-    Tracker {
-        reader: reader::start(),
-        line: 1,
-        found: Found::Nothing,
-    }
-}
-
-fn is_unreadable(r: Reader) -> bool
-    ensures { result ≡ is_unreadable r.progress.part }
-{
-    let progress = r.progress;
-    let part = progress.part;
-    match part {
-        Part::Start => false,
-        Part::Words => false,
-        Part::Block(_, _) => false,
-        Part::Jobs => false,
-        Part::Stints => false,
-        Part::Unreadable => true,
-    }
+    matches!(reader.progress.part, Part::Unreadable)
 }
 
 // The line feed of the line with the number n, which the reader has begun.
-fn end_line(
-    r: Reader,
-    n: u64,
-    memory: &mut [u64],
-    jobs: &mut [u64],
-    stint_jobs: &mut [u64],
-    stint_turns: &mut [u64],
-) -> Tracker
-    requires { ReaderReady r memory.old (lists jobs.old stint_jobs.old stint_turns.old) × (n + 1 < 2 ^ 64) }
-    ensures { tracker_state result memory.new (lists jobs.new stint_jobs.new stint_turns.new)
-        ≡ line_ended (reader_state r memory.old (lists jobs.old stint_jobs.old stint_turns.old))
-        (byte_fed (reader_state r memory.old (lists jobs.old stint_jobs.old stint_turns.old)) 10) n }
+fn end_line(reader: Reader, n: u64, lent: &mut Lent) -> Tracker
+    requires { ReaderReady reader lent.old.memory.now (lists_in lent.old) × (n + 1 < 2 ^ 64) }
+    ensures tracked { tracker_state result lent.new.memory.now (lists_in lent.new)
+        ≡ line_ended (reader_state reader lent.old.memory.now (lists_in lent.old))
+        (byte_fed (reader_state reader lent.old.memory.now (lists_in lent.old)) 10) n }
+    ensures same { SameLent lent.old lent.new }
 {
-    let begun = r.length;
-    let bytes = r.line;
-    let said = line_of(&bytes[..begun]);
-    let progress = r.progress;
-    let part = progress.part;
-    let rule = rule_of(part, said);
-    let after = feed_all(
-        r,
-        b"\n",
-        &mut *memory,
-        &mut *jobs,
-        &mut *stint_jobs,
-        &mut *stint_turns,
-    );
+    let said = line_of(&reader.line[..reader.length]);
+    let rule = rule_of(reader.progress.part, said);
+    let after = reader.feed_all(b"\n", lent);
     if is_unreadable(after) {
         return Tracker {
             reader: after,
             line: n,
-            found: Found::Line(n, rule),
+            found: Some(UnreadableLine { number: n, rule }),
         };
     }
     Tracker {
         reader: after,
         line: n + 1,
-        found: Found::Nothing,
+        found: None,
     }
 }
 
 // One byte of the line with the number n.
 #[tactic(auto, unfolding(crate::specs::Tracker::byte_followed))]
-fn follow_byte(
-    r: Reader,
-    n: u64,
-    byte: u8,
-    memory: &mut [u64],
-    jobs: &mut [u64],
-    stint_jobs: &mut [u64],
-    stint_turns: &mut [u64],
-) -> Tracker
-    requires { ReaderReady r memory.old (lists jobs.old stint_jobs.old stint_turns.old) × (n + 1 < 2 ^ 64) }
-    ensures { tracker_state result memory.new (lists jobs.new stint_jobs.new stint_turns.new)
-        ≡ byte_followed (reader_state r memory.old (lists jobs.old stint_jobs.old stint_turns.old)) n byte }
+fn follow_byte(reader: Reader, n: u64, byte: u8, lent: &mut Lent) -> Tracker
+    requires { ReaderReady reader lent.old.memory.now (lists_in lent.old) × (n + 1 < 2 ^ 64) }
+    ensures tracked { tracker_state result lent.new.memory.now (lists_in lent.new)
+        ≡ byte_followed (reader_state reader lent.old.memory.now (lists_in lent.old)) n byte }
+    ensures same { SameLent lent.old lent.new }
 {
     if byte == b'\n' {
-        return end_line(
-            r,
-            n,
-            &mut *memory,
-            &mut *jobs,
-            &mut *stint_jobs,
-            &mut *stint_turns,
-        );
+        return end_line(reader, n, lent);
     }
-    let bytes = [byte; 1];
-    let after = feed_all(
-        r,
-        &bytes,
-        &mut *memory,
-        &mut *jobs,
-        &mut *stint_jobs,
-        &mut *stint_turns,
-    );
     Tracker {
-        reader: after,
+        reader: reader.feed_all(&[byte], lent),
         line: n,
-        found: Found::Nothing,
-    }
-}
-
-// One byte; none is read after the first unreadable line.
-fn track_byte(
-    t: Tracker,
-    byte: u8,
-    memory: &mut [u64],
-    jobs: &mut [u64],
-    stint_jobs: &mut [u64],
-    stint_turns: &mut [u64],
-) -> Tracker
-    requires { TrackerReady t memory.old (lists jobs.old stint_jobs.old stint_turns.old) 1 }
-    ensures { tracker_state result memory.new (lists jobs.new stint_jobs.new stint_turns.new)
-        ≡ byte_tracked (tracker_state t memory.old (lists jobs.old stint_jobs.old stint_turns.old)) byte }
-{
-    let found = t.found;
-    match found {
-        Found::Nothing => {
-            let reader = t.reader;
-            follow_byte(
-                reader,
-                t.line,
-                byte,
-                &mut *memory,
-                &mut *jobs,
-                &mut *stint_jobs,
-                &mut *stint_turns,
-            )
-        }
-        Found::Line(_, _) => t,
-    }
-}
-
-fn track_all(
-    t: Tracker,
-    bytes: &[u8],
-    memory: &mut [u64],
-    jobs: &mut [u64],
-    stint_jobs: &mut [u64],
-    stint_turns: &mut [u64],
-) -> Tracker
-    requires { TrackerReady t memory.old (lists jobs.old stint_jobs.old stint_turns.old) (length bytes.now) }
-    ensures { tracker_state result memory.new (lists jobs.new stint_jobs.new stint_turns.new)
-        ≡ bytes_tracked (tracker_state t memory.old (lists jobs.old stint_jobs.old stint_turns.old))
-        bytes.now }
-{
-    let mut tracker = t;
-    let mut at: usize = 0;
-    while at < bytes.len() {
-        tracker = track_byte(
-            tracker,
-            bytes[at],
-            &mut *memory,
-            &mut *jobs,
-            &mut *stint_jobs,
-            &mut *stint_turns,
-        );
-        at = at + 1;
-    }
-    tracker
-}
-
-// Numbers 1, 5 and 6; the last also for more bytes than the number of a line has room for.
-fn tracker_verdict(
-    t: Tracker,
-    bytes: &[u8],
-    memory: &[u64],
-    jobs: &[u64],
-    stint_jobs: &[u64],
-    stint_turns: &[u64],
-) -> Verdict
-    ensures { result ≡ tracker_verdict t memory.now (lists jobs.now stint_jobs.now stint_turns.now)
-        bytes.now }
-{
-    let reader = t.reader;
-    match reader_verdict(reader, memory, jobs, stint_jobs, stint_turns) {
-        Verdict::Accepted => {
-            if u64::MAX - t.line < bytes.len() as u64 {
-                return Verdict::Refused(Refusal::ListLength);
-            }
-            Verdict::Accepted
-        }
-        Verdict::Refused(x) => Verdict::Refused(x),
-    }
-}
-
-// Reads the next bytes of the input.
-pub fn track(
-    t: Tracker,
-    bytes: &[u8],
-    memory: &mut [u64],
-    jobs: &mut [u64],
-    stint_jobs: &mut [u64],
-    stint_turns: &mut [u64],
-) -> TrackAnswer
-    ensures { track_answer_to memory.new (lists jobs.new stint_jobs.new stint_turns.new) result
-        ≡ track_answer (tracker_state t memory.old (lists jobs.old stint_jobs.old stint_turns.old))
-        bytes.now }
-{
-    match tracker_verdict(t, bytes, &*memory, &*jobs, &*stint_jobs, &*stint_turns) {
-        Verdict::Accepted => {
-            let after = track_all(
-                t,
-                bytes,
-                &mut *memory,
-                &mut *jobs,
-                &mut *stint_jobs,
-                &mut *stint_turns,
-            );
-            TrackAnswer {
-                verdict: Verdict::Accepted,
-                tracker: after,
-            }
-        }
-        Verdict::Refused(x) => TrackAnswer {
-            verdict: Verdict::Refused(x),
-            tracker: t,
-        },
+        found: None,
     }
 }
 
 // What a reader at the line with the number n leaves to be found, if the input ends here.
-fn found_in_reader(r: Reader, n: u64) -> Found
-    ensures { result ≡ end_of_reader r n }
+fn found_in_reader(reader: Reader, n: u64) -> Option<UnreadableLine>
+    ensures { result ≡ end_of_reader reader n }
 {
-    if r.length != 0 {
-        return Found::Line(n, Rule::LineFeed);
-    }
-    let progress = r.progress;
-    let part = progress.part;
-    match part {
-        Part::Start => Found::Line(n, Rule::Empty),
-        Part::Words => Found::Nothing,
-        Part::Block(_, _) => Found::Nothing,
-        Part::Jobs => Found::Nothing,
-        Part::Stints => Found::Nothing,
-        Part::Unreadable => Found::Nothing,
-    }
+    let rule = match reader.progress.part {
+        _ if reader.length != 0 => Rule::LineFeed,
+        Part::Start => Rule::Empty,
+        _ => return None,
+    };
+    Some(UnreadableLine { number: n, rule })
 }
 
-// What is found, if the input ends here.
-pub fn found_at_end(t: Tracker) -> Found
-    ensures { result ≡ found_by t }
-{
-    let found = t.found;
-    let reader = t.reader;
-    match found {
-        Found::Nothing => found_in_reader(reader, t.line),
-        Found::Line(n, rule) => Found::Line(n, rule),
+impl Tracker {
+    // A tracker that has read nothing.
+    pub fn new() -> Tracker
+        ensures { result ≡ empty_tracker }
+    {
+        Tracker {
+            reader: Reader::new(),
+            line: 1,
+            found: None,
+        }
+    }
+
+    // One byte; none is read after the first unreadable line.
+    fn track_byte(self, byte: u8, lent: &mut Lent) -> Tracker
+        requires { TrackerReady self lent.old.memory.now (lists_in lent.old) 1 }
+        ensures tracked { tracker_state result lent.new.memory.now (lists_in lent.new)
+            ≡ byte_tracked (tracker_state self lent.old.memory.now (lists_in lent.old)) byte }
+        ensures same { SameLent lent.old lent.new }
+    {
+        match self.found {
+            None => follow_byte(self.reader, self.line, byte, lent),
+            Some(_) => self,
+        }
+    }
+
+    #[tactic(auto, using(crate::specs::Laws::Tracker::tracking_steps))]
+    fn track_all(self, bytes: &[u8], lent: &mut Lent) -> Tracker
+        requires { TrackerReady self lent.old.memory.now (lists_in lent.old) (length bytes.now) }
+        ensures tracked { tracker_state result lent.new.memory.now (lists_in lent.new)
+            ≡ bytes_tracked (tracker_state self lent.old.memory.now (lists_in lent.old)) bytes.now }
+        ensures same { SameLent lent.old lent.new }
+    {
+        let mut tracker = self;
+        for byte in bytes {
+            tracker = tracker.track_byte(*byte, lent);
+        }
+        tracker
+    }
+
+    // Numbers 1, 5 and 6; the last also for more bytes than the number of a line has room for.
+    #[tactic(auto, unfolding(crate::specs::Tracker::tracker_verdict))]
+    fn verdict(self, bytes: &[u8], lent: &Lent) -> Result<(), Refusal>
+        ensures { result ≡ tracker_verdict self lent.now.memory.now (lists_in lent.now) bytes.now }
+    {
+        self.reader.verdict(lent)?;
+        if u64::MAX - self.line < bytes.len() as u64 {
+            return Err(Refusal::ListLength);
+        }
+        Ok(())
+    }
+
+    // Reads the next bytes of the input.
+    #[tactic(auto, unfolding(crate::specs::Tracker::track_answer))]
+    pub fn track(self, bytes: &[u8], lent: &mut Lent) -> Result<Tracker, Refusal>
+        ensures tracked { track_answer_to self lent.new.memory.now (lists_in lent.new) result
+            ≡ track_answer (tracker_state self lent.old.memory.now (lists_in lent.old)) bytes.now }
+        ensures same { SameLent lent.old lent.new }
+    {
+        self.verdict(bytes, lent)?;
+        Ok(self.track_all(bytes, lent))
+    }
+
+    // What is found, if the input ends here.
+    pub fn found_at_end(self) -> Option<UnreadableLine>
+        ensures { result ≡ found_by self }
+    {
+        match self.found {
+            None => found_in_reader(self.reader, self.line),
+            found => found,
+        }
     }
 }

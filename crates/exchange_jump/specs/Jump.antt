@@ -1,8 +1,7 @@
 -- The exchange jump, by document 01, "Memory and records" and "Who can be turned down".
-use Rattle.std.specs.Prelude.{ℕ, ◌+◌, Bool, not, cond, List, leb, length}
+use Rattle.std.specs.Prelude.{ℕ, ◌+◌, Bool, not, cond, List, leb, length, Ok, Err}
 use Rattle.base_outcome.specs.declared.refusal.Refusal.TheVariants as Refusal
-use Rattle.base_outcome.specs.declared.refusal.Verdict.{Verdict}
-use Rattle.base_outcome.specs.declared.refusal.Verdict.TheVariants as Call
+use Rattle.base_outcome.specs.Verdict.{Verdict}
 use Rattle.central_record.specs.declared.record.Central.{Central}
 use Rattle.base_lists.specs.Parts.{part, splice}
 use Rattle.exchange_package.specs.Package.{coded, package_record, has_stray}
@@ -28,9 +27,9 @@ unfoldable pub package_verdict : List ℕ → ℕ → Verdict
 package_verdict m at =
     cond (package_inside m at)
     (cond (package_clean m at)
-    (cond (field_inside m at) Call.Accepted (Call.Refused Refusal.FieldPastEnd))
-    (Call.Refused Refusal.StrayBits))
-    (Call.Refused Refusal.PackagePastEnd)
+    (cond (field_inside m at) (Ok tt) (Err Refusal.FieldPastEnd))
+    (Err Refusal.StrayBits))
+    (Err Refusal.PackagePastEnd)
 
 -- memory and record after an exchange jump
 pub record Exchanged : Type 0 where

@@ -3,7 +3,7 @@ ghost use Rattle.std.specs.Prelude.{◌≡◌, ◌+◌, ◌≤◌, leb, length};
 ghost use Rattle.central_record.specs.Record.{FitsPackage};
 ghost use Rattle.exchange_jump.specs.Jump.{field_inside, package_verdict, exchanged_to, exchanged};
 
-use base_outcome::refusal::{Refusal, Verdict};
+use base_outcome::refusal::Refusal;
 use central_record::record::Central;
 use exchange_package::package::{has_stray, load, store};
 
@@ -11,13 +11,11 @@ use exchange_package::package::{has_stray, load, store};
 pub fn package_is_inside(words: u64, at: u64) -> bool
     ensures { result ≡ leb (at + 16) words }
 {
-    if words < 16 {
-        return false;
-    }
-    at <= words - 16
+    words >= 16 && at <= words - 16
 }
 
 // Number 11 does not refuse the package at this address.
+#[tactic(auto, unfolding(crate::specs::Jump::field_inside))]
 pub fn field_inside(m: &[u64], at: usize) -> bool
     requires { at + 16 ≤ length m.now }
     ensures { result ≡ field_inside m.now at }
@@ -27,21 +25,21 @@ pub fn field_inside(m: &[u64], at: usize) -> bool
 }
 
 // Numbers 9, 10 and 11 on the package at this address, lowest first.
-pub fn package_verdict(m: &[u64], at: u64) -> Verdict
+#[tactic(auto, unfolding(crate::specs::Jump::package_verdict, crate::specs::Jump::package_inside, crate::specs::Jump::package_clean))]
+pub fn package_verdict(m: &[u64], at: u64) -> Result<(), Refusal>
     ensures { result ≡ package_verdict m.now at }
 {
-    let words = m.len() as u64;
-    if package_is_inside(words, at) {
-        let place = at as usize;
-        if has_stray(m, place) {
-            return Verdict::Refused(Refusal::StrayBits);
-        }
-        if !field_inside(m, place) {
-            return Verdict::Refused(Refusal::FieldPastEnd);
-        }
-        return Verdict::Accepted;
+    if !package_is_inside(m.len() as u64, at) {
+        return Err(Refusal::PackagePastEnd);
     }
-    Verdict::Refused(Refusal::PackagePastEnd)
+    let at = at as usize;
+    if has_stray(m, at) {
+        return Err(Refusal::StrayBits);
+    }
+    if !field_inside(m, at) {
+        return Err(Refusal::FieldPastEnd);
+    }
+    Ok(())
 }
 
 // Swaps the record and the package at this address, and hands back the record that the package held.
@@ -50,7 +48,6 @@ pub fn exchange_jump(m: &mut [u64], c: Central, at: usize) -> Central
     ensures { exchanged_to m.new result ≡ exchanged m.old c at }
 {
     let next = load(m, at);
-    let end = at + 16;
-    store(&mut m[at..end], c);
+    store(&mut m[at..at + 16], c);
     next
 }

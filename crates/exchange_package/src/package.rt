@@ -1,4 +1,6 @@
 // The exchange package: sixteen words that hold a central record.
+// Kept: the words are a slice with `length ≡ 16` in the contracts, since they are a part of lent memory: an array of it comes from std by a
+// test that can fail, which no package does.
 ghost use Rattle.std.specs.Prelude.{◌≡◌, ◌+◌, ◌^◌, ◌≤◌, ◌<◌, length, get_or};
 ghost use Rattle.word_arithmetic.specs.Bits.{bits};
 ghost use Rattle.base_lists.specs.Indexed.{all_below, tabulate};
@@ -7,6 +9,7 @@ ghost use Rattle.base_lists.specs.Parts.{part};
 ghost use Rattle.exchange_package.specs.Package.{controls, package_word, coded, register_in, package_record, bits_in_use, word_has_no_stray, has_stray};
 
 use central_record::record::{Central, em_fits};
+use std::array;
 
 // The 18 bits of a word from this bit up.
 fn bits18(w: u64, first: u64) -> u64
@@ -17,18 +20,16 @@ fn bits18(w: u64, first: u64) -> u64
 }
 
 // Register i of a package: An and Bn share a word, Xn has a word of its own.
+#[tactic(auto, unfolding(crate::specs::Package::register_in))]
 fn register_in(w: &[u64], i: usize) -> u64
     requires { (length w.now ≡ 16) × (i < 24) }
     ensures { result ≡ register_in w.now i }
 {
-    if i < 8 {
-        return bits18(w[i], 18);
+    match i {
+        0..=7 => bits18(w[i], 18),
+        8..=15 => bits18(w[i - 8], 0),
+        _ => w[i - 8],
     }
-    let word = w[i - 8];
-    if i < 16 {
-        return bits18(word, 0);
-    }
-    word
 }
 
 // All 24 registers of a package.
@@ -36,28 +37,21 @@ fn registers_in(w: &[u64]) -> [u64; 24]
     requires { length w.now ≡ 16 }
     ensures { result ≡ tabulate 24 (register_in w.now) }
 {
-    let mut registers: [u64; 24] = [0; 24];
-    let mut i: usize = 0;
-    while i < 24 {
-        let value = register_in(w, i);
-        registers[i] = value;
-        i = i + 1;
-    }
-    registers
+    array::from_fn(|i| register_in(w, i))
 }
 
 // The record in a package's sixteen words.
+#[tactic(auto, unfolding(crate::specs::Package::package_record))]
 fn decode(w: &[u64]) -> Central
     requires { length w.now ≡ 16 }
     ensures { result ≡ package_record w.now }
 {
-    let registers = registers_in(w);
     Central {
         p: bits18(w[0], 36),
         ra: bits18(w[1], 36),
         fl: bits18(w[2], 36),
         em: bits18(w[3], 36),
-        registers: registers,
+        registers: registers_in(w),
         stop: 0,
     }
 }
@@ -67,8 +61,7 @@ pub fn load(m: &[u64], at: usize) -> Central
     requires { at + 16 ≤ length m.now }
     ensures { result ≡ package_record (part m.now at 16) }
 {
-    let end = at + 16;
-    decode(&m[at..end])
+    decode(&m[at..at + 16])
 }
 
 // P, RA, FL and EM, which words 0 to 3 hold above A and B.
@@ -85,18 +78,16 @@ fn control(c: Central, n: usize) -> u64
 }
 
 // Word n of the package that holds the record.
+#[tactic(auto, unfolding(crate::specs::Package::package_word))]
 fn package_word(c: Central, n: usize) -> u64
     requires { (n < 16) × FitsPackage c }
     ensures { result ≡ package_word c n }
 {
     if n < 8 {
-        let upper = control(c, n);
-        let a = c.registers[n];
-        let b = c.registers[8 + n];
-        return (upper << 36) | (a << 18) | b;
+        (control(c, n) << 36) | (c.registers[n] << 18) | c.registers[8 + n]
+    } else {
+        c.registers[8 + n]
     }
-    let x = n - 8;
-    c.registers[16 + x]
 }
 
 // Makes the words a package that holds the record.
@@ -104,12 +95,8 @@ pub fn store(w: &mut [u64], c: Central)
     requires { (length w.old ≡ 16) × FitsPackage c }
     ensures { w.new ≡ coded c }
 {
-    let mut n: usize = 0;
-    while n < 16 {
-        let word = package_word(c, n);
-        w[n] = word;
-        n = n + 1;
-    }
+    let words: [u64; 16] = array::from_fn(|n| package_word(c, n));
+    w.copy_from_slice(&words);
 }
 
 // The first number with a bit above those in use in word n of a package, for 0 to 7.
@@ -117,9 +104,10 @@ fn word_limit(n: usize) -> u64
     ensures { result ≡ 2 ^ bits_in_use n }
 {
     if n < 4 {
-        return 0o1000000000000000000;
+        0o1000000000000000000
+    } else {
+        0o1000000000000
     }
-    0o1000000000000
 }
 
 // No bit is set above P, RA, FL and EM in words 0 to 3, and none above A in words 4 to 7.
@@ -127,30 +115,17 @@ fn words_have_no_stray(w: &[u64]) -> bool
     requires { length w.now ≡ 16 }
     ensures { result ≡ all_below 8 (word_has_no_stray w.now) }
 {
-    let mut n: usize = 0;
-    while n < 8 {
-        let limit = word_limit(n);
-        if limit <= w[n] {
-            return false;
-        }
-        n = n + 1;
-    }
-    true
+    (0..8).all(|n: usize| w[n] < word_limit(n))
 }
 
 // A stray bit is set in a package's sixteen words.
+#[tactic(auto, unfolding(crate::specs::Package::has_stray))]
 fn package_has_stray(w: &[u64]) -> bool
     requires { length w.now ≡ 16 }
     ensures { result ≡ has_stray w.now }
 {
-    let b0 = bits18(w[0], 0);
-    let em = bits18(w[3], 36);
-    if words_have_no_stray(w) {
-        if b0 == 0 {
-            return !em_fits(em);
-        }
-    }
-    true
+    let fits = words_have_no_stray(w) && bits18(w[0], 0) == 0 && em_fits(bits18(w[3], 36));
+    !fits
 }
 
 // A stray bit is set in the package at this address.
@@ -158,6 +133,5 @@ pub fn has_stray(m: &[u64], at: usize) -> bool
     requires { at + 16 ≤ length m.now }
     ensures { result ≡ has_stray (part m.now at 16) }
 {
-    let end = at + 16;
-    package_has_stray(&m[at..end])
+    package_has_stray(&m[at..at + 16])
 }

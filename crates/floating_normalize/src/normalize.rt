@@ -4,7 +4,7 @@ ghost use Rattle.floating_word.specs.Widths.{NumberFits};
 ghost use Rattle.floating_normalize.specs.Normalized.{left_places, normal_of, normalized};
 
 use floating_word::number::{Number, number_in, word_of};
-use floating_word::special::{is_indefinite, is_infinite};
+use floating_word::special::is_special;
 
 // What 24 sends to Xi and to Bj.
 #[derive(Clone, Copy)]
@@ -18,7 +18,7 @@ fn left_places(size: u64) -> u64
     requires { size < 2 ^ 48 }
     ensures { result ≡ left_places size }
 {
-    u64::leading_zeros(size) as u64 - 16
+    u64::from(size.leading_zeros()) - 16
 }
 
 fn normal_of(x: Number) -> Normal
@@ -32,14 +32,12 @@ fn normal_of(x: Number) -> Normal
     }
 }
 
+#[tactic(auto, unfolding(crate::specs::Normalized::normalized))]
 pub fn normalize(x: u64) -> Normal
     requires { x < 2 ^ 60 }
     ensures { result ≡ normalized x }
 {
-    if is_infinite(x) {
-        return Normal { word: x, count: 0 };
-    }
-    if is_indefinite(x) {
+    if is_special(x) {
         return Normal { word: x, count: 0 };
     }
     normal_of(number_in(x))

@@ -1,8 +1,8 @@
 // The exact product of two sizes in halves of 48 bits, and its move to the left.
 ghost use Rattle.std.specs.Prelude.{◌≡◌, ◌*◌, ◌/◌, ◌<◌, ◌^◌};
-ghost use Rattle.floating_word.specs.Halves.{whole, halves_of};
+ghost use Rattle.floating_word.specs.Halves.{halves_of};
 ghost use Rattle.floating_product.specs.Products.{is_normal, moves_left};
-ghost use Rattle.floating_product.specs.Halves.{with_places, cut_product};
+ghost use Rattle.floating_product.specs.Halves.{cut_product};
 
 use floating_word::halves::Halves;
 
@@ -15,8 +15,7 @@ const TOP: u64 = 0o4000000000000000;
 // A product as moved, and the places, 0 or 1, by which it was moved.
 #[derive(Clone, Copy)]
 pub struct Product {
-    pub high: u64,
-    pub low: u64,
+    pub size: Halves,
     pub places: u64,
 }
 
@@ -37,27 +36,6 @@ fn exact_product(a: u64, b: u64) -> Halves
     }
 }
 
-// One place to the left: the top bit of the lower half goes over into the upper.
-fn doubled(p: Halves) -> Halves
-    requires { (p.high < 2 ^ 47) × (p.low < 2 ^ 48) }
-    ensures { result ≡ halves_of (whole p * 2) }
-{
-    Halves {
-        high: p.high * 2 + p.low / TOP,
-        low: p.low % TOP * 2,
-    }
-}
-
-fn with_places(p: Halves, places: u64) -> Product
-    ensures { result ≡ with_places p places }
-{
-    Product {
-        high: p.high,
-        low: p.low,
-        places,
-    }
-}
-
 fn is_normal(size: u64) -> bool
     ensures { result ≡ is_normal size }
 {
@@ -69,12 +47,7 @@ fn moves_left(a: u64, b: u64, high: u64) -> bool
     requires { high ≡ a * b / 2 ^ 48 }
     ensures { result ≡ moves_left a b }
 {
-    if is_normal(a) {
-        if is_normal(b) {
-            return high < TOP;
-        }
-    }
-    false
+    is_normal(a) && is_normal(b) && high < TOP
 }
 
 pub(crate) fn moved_product(a: u64, b: u64) -> Product
@@ -83,8 +56,11 @@ pub(crate) fn moved_product(a: u64, b: u64) -> Product
 {
     let p = exact_product(a, b);
     if moves_left(a, b, p.high) {
-        with_places(doubled(p), 1)
+        Product {
+            size: p.doubled(),
+            places: 1,
+        }
     } else {
-        with_places(p, 0)
+        Product { size: p, places: 0 }
     }
 }

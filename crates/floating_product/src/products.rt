@@ -14,6 +14,7 @@ use floating_word::special::{
 const BIAS: u64 = 1023;
 
 // A half of the product of two finite numbers, without its sign.
+#[tactic(auto, unfolding(crate::specs::Products::product_half))]
 fn product_half(lower: bool, x: Number, y: Number) -> u64
     requires number_fits { NumberFits x }
     requires number_fits_2 { NumberFits y }
@@ -23,9 +24,9 @@ fn product_half(lower: bool, x: Number, y: Number) -> u64
     let sum = x.biased + y.biased;
     let fall = BIAS + p.places;
     if lower {
-        word_of(false, sum, fall, p.low)
+        word_of(false, sum, fall, p.size.low)
     } else {
-        word_of(false, sum + 48, fall, p.high)
+        word_of(false, sum + 48, fall, p.size.high)
     }
 }
 
@@ -34,37 +35,27 @@ fn is_zero_operand(x: u64) -> bool
     requires { x < 2 ^ 60 }
     ensures { result ≡ is_zero_operand x }
 {
-    if is_special(x) {
-        false
-    } else {
-        number_in(x).size == 0
-    }
+    !is_special(x) && number_in(x).size == 0
 }
 
 fn either_zero(x: u64, y: u64) -> bool
     requires { (x < 2 ^ 60) × (y < 2 ^ 60) }
     ensures { result ≡ either_zero x y }
 {
-    if is_zero_operand(x) {
-        true
-    } else {
-        is_zero_operand(y)
-    }
+    is_zero_operand(x) || is_zero_operand(y)
 }
 
 // The result before its complement.
+#[tactic(auto, unfolding(crate::specs::Products::product_word))]
 fn product_word(lower: bool, x: u64, y: u64) -> u64
     requires { (x < 2 ^ 60) × (y < 2 ^ 60) }
     ensures { result ≡ product_word lower x y }
 {
-    if either_indefinite(x, y) {
+    let zero = either_zero(x, y);
+    if either_indefinite(x, y) || (either_infinite(x, y) && zero) {
         return INDEFINITE;
     }
-    let zero = either_zero(x, y);
     if either_infinite(x, y) {
-        if zero {
-            return INDEFINITE;
-        }
         return infinity_word(false);
     }
     if zero {
@@ -76,16 +67,11 @@ fn product_word(lower: bool, x: u64, y: u64) -> u64
 fn is_complemented(differ: bool, w: u64) -> bool
     ensures { result ≡ is_complemented differ w }
 {
-    if differ {
-        if is_indefinite(w) {
-            return false;
-        }
-        return w != 0;
-    }
-    false
+    differ && !is_indefinite(w) && w != 0
 }
 
 // 40, and 42 (lower).
+#[tactic(auto, unfolding(crate::specs::Products::floating_product))]
 pub fn floating_product(lower: bool, xj: u64, xk: u64) -> u64
     requires { (xj < 2 ^ 60) × (xk < 2 ^ 60) }
     ensures { result ≡ floating_product lower xj xk }

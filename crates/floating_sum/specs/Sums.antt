@@ -1,8 +1,8 @@
 -- The floating sums and differences, 30 to 33, by document 02, (f). Sizes and sums are whole numbers.
-use Rattle.std.specs.Prelude.{ℕ, zero, suc, ◌+◌, ◌-◌, ◌*◌, ◌/◌, ◌%◌, ◌^◌, max, Bool, true, false, not, cond, ◌&&◌, ◌||◌, eqb, ltb, ℤ, pos, negsuc, neg_ℤ, ◌+ℤ◌}
+use Rattle.std.specs.Prelude.{ℕ, zero, suc, ◌+◌, ◌-◌, ◌*◌, ◌/◌, ◌%◌, ◌^◌, max, Bool, true, false, cond, ◌&&◌, ◌||◌, eqb, ltb, ℤ, pos, negsuc, neg_ℤ, ◌+ℤ◌}
 use Rattle.word_arithmetic.specs.Bits.{negative}
 use Rattle.word_arithmetic.specs.Sums.{complement}
-use Rattle.floating_word.specs.Special.{is_infinite, either_indefinite, infinity_word, indefinite_word}
+use Rattle.floating_word.specs.Special.{is_infinite, either_indefinite, unlike_signs, infinity_word, indefinite_word}
 use Rattle.floating_word.specs.Number.{number_with, number_in, word_of}
 use Rattle.floating_word.specs.declared.number.Number.{Number}
 
@@ -55,9 +55,6 @@ unfoldable pub half_of : Bool → Number → ℕ
 half_of lower t =
     cond lower (word_of t.minus t.biased 48 (t.size % 2 ^ 48))
     (word_of t.minus t.biased 0 (t.size / 2 ^ 48))
-
-abbrev pub unlike_signs : ℕ → ℕ → Bool
-unlike_signs x y = cond (negative 60 x) (not (negative 60 y)) (negative 60 y)
 
 -- "infinity less infinity": two of unlike signs, where the second of a difference is complemented already
 abbrev pub unlike_infinities : ℕ → ℕ → Bool

@@ -1,16 +1,10 @@
 -- What the last sentence of document 02, (f), says: "For finite operands whose two result exponents stay within the limits, upper and lower
 -- together equal the whole-number sum as aligned and moved." `Laws.Together` proves it.
-use Rattle.std.specs.Prelude.{ℕ, suc, ◌+◌, ◌*◌, ◌/◌, ◌^◌, ◌≤◌, ◌<◌, false, cond, ◌≡◌, ltb, ℤ, pos, negsuc, neg_ℤ, nat_abs, ◌+ℤ◌}
-use Rattle.floating_word.specs.Special.{is_infinite, is_indefinite}
+use Rattle.std.specs.Prelude.{ℕ, suc, ◌+◌, ◌*◌, ◌/◌, ◌^◌, ◌≤◌, cond, ◌≡◌, ltb, ℤ, pos, negsuc, neg_ℤ, nat_abs, ◌+ℤ◌}
+use Rattle.floating_word.specs.Finite.{FiniteWord}
 use Rattle.floating_word.specs.Number.{number_in}
 use Rattle.floating_sum.specs.Sums.{coefficient, aligned, whole_of, finite_sum}
 use Rattle.floating_word.specs.declared.number.Number.{Number}
-
--- a finite operand
-pub record FiniteWord (x : ℕ) : Type 0 where
-  pub width : x < 2 ^ 60
-  pub not_infinite : is_infinite x ≡ false
-  pub not-indefinite : is_indefinite x ≡ false
 
 -- the "two result exponents stay within the limits": the lower, which is 48 less, from below, and the upper from above
 pub record WithinLimits (t : Number) : Type 0 where

@@ -1,5 +1,5 @@
 -- Consequences of the definitions.
-pub mod Write
 pub mod Back
+pub mod Write
 pub mod Results
 pub mod Again

@@ -2,21 +2,19 @@
 ghost use Rattle.std.specs.Prelude.{◌≡◌, ◌*◌, ◌≤◌, length, get_or};
 ghost use Rattle.base_lists.specs.Rows.{rows};
 ghost use Rattle.base_lists.specs.Written.{Stores};
+ghost use Rattle.peripheral_channel.specs.declared.record.Channel.{Channel};
 ghost use Rattle.whole_device.specs.Device.{take_answer_to};
 ghost use Rattle.host_answer.specs.Results.{stint_row, take_left, take_by, TakeStorable};
 
-use super::write::store_channel;
-use peripheral_machine::numbers::flag;
-use whole_device::calls::{TakeAnswer, Taken};
+use super::write::StoredRecord;
+use base_outcome::refusal::Refusal;
+use whole_device::calls::TakenFrom;
 
 // The entry of a list, and 0 past its end.
 fn entry(list: &[u64], i: usize) -> u64
     ensures { result ≡ get_or list.now i 0 }
 {
-    if i < list.len() {
-        return list[i];
-    }
-    0
+    list.get(i).copied().unwrap_or(0)
 }
 
 // The turns and the stop of each of n stints.
@@ -24,28 +22,24 @@ pub fn store_stints(res: &mut [u64], turns: &[u64], stops: &[u64], n: usize)
     requires { 2 * n ≤ length res.old }
     ensures { Stores res.old 0 (rows n (stint_row turns.now stops.now)) res.new }
 {
-    let mut i: usize = 0;
-    while i < n {
+    for i in 0..n {
         res[2 * i] = entry(turns, i);
         res[2 * i + 1] = entry(stops, i);
-        i = i + 1;
     }
 }
 
 // Stores what a take gave: the word and the mark, and the channel after it. A refusal stores nothing.
-pub fn keep_taken(channel: &mut [u64], res: &mut [u64], a: TakeAnswer) -> u64
-    requires { TakeStorable channel.old res.old a }
-    ensures { take_left result channel.new res.new ≡ take_by channel.old res.old (take_answer_to a) }
+pub fn keep_taken(channel: &mut [u64], res: &mut [u64], answer: Result<TakenFrom, Refusal>) -> u64
+    requires { TakeStorable channel.old res.old answer }
+    ensures { (before : Channel) → take_left result channel.new res.new ≡ take_by channel.old res.old (take_answer_to before answer) }
 {
-    let taken = a.verdict;
-    let after = a.channel;
-    match taken {
-        Taken::Word(word, mark) => {
-            store_channel(&mut *channel, after);
-            res[0] = word;
-            res[1] = flag(mark);
+    match answer {
+        Ok(after) => {
+            after.channel.store(channel);
+            res[0] = after.taken.word;
+            res[1] = u64::from(after.taken.is_function);
             0
         }
-        Taken::Refused(r) => r.number(),
+        Err(refusal) => refusal.number(),
     }
 }

@@ -1,8 +1,7 @@
 -- The device calls, on a channel of four numbers.
-use Rattle.std.specs.Prelude.{cond, List, ℕ, leb, length}
+use Rattle.std.specs.Prelude.{cond, List, ℕ, leb, length, Ok, Err}
 use Rattle.base_outcome.specs.declared.refusal.Refusal.TheVariants as Refusal
-use Rattle.base_outcome.specs.declared.refusal.Verdict.{Verdict}
-use Rattle.base_outcome.specs.declared.refusal.Verdict.TheVariants as Call
+use Rattle.base_outcome.specs.Verdict.{Verdict}
 use Rattle.whole_device.specs.Device.{DeviceAnswered, put_of, take_of, drop_of}
 use Rattle.peripheral_channel.specs.Fits.{channel_fits}
 use Rattle.peripheral_channel.specs.declared.record.Channel.{Channel}
@@ -22,7 +21,7 @@ channel_drop c = channel_left_by c (drop_of (channel_lent c))
 
 -- number 5 of a take
 abbrev pub channel_verdict : Channel → Verdict
-channel_verdict c = cond (channel_fits c) Call.Accepted (Call.Refused Refusal.RecordValue)
+channel_verdict c = cond (channel_fits c) (Ok tt) (Err Refusal.RecordValue)
 
 unfoldable pub channel_take : List ℕ → List ℕ → TakeLeft
 channel_take c out =

@@ -2,9 +2,7 @@
 use Rattle.std.specs.Prelude.{true, cond, List, [], ◌∷◌, ℕ, leb, length}
 use Rattle.std.proofs.lemmas.List.Edits.{sets}
 use Rattle.whole_verdict.specs.Verdict.{machine_verdict}
-use Rattle.whole_calls.specs.Call.{MachineAnswered, peripheral_turn_answer, run_answer}
-use Rattle.whole_calls.specs.declared.call.TurnAnswer.{TurnAnswer}
-use Rattle.whole_calls.specs.declared.call.RunAnswer.{RunAnswer}
+use Rattle.whole_calls.specs.Call.{TurnAnswer, RunAnswer, MachineAnswered, peripheral_turn_answer, run_answer}
 use Rattle.host_answer.specs.Back.{kept, short_number}
 use Rattle.host_record.specs.Layout.{machine_numbers}
 use Rattle.host_record.specs.Lent.{machine_lent}

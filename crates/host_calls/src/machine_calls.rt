@@ -2,8 +2,9 @@
 ghost use Rattle.std.specs.Prelude.{◌≡◌};
 ghost use Rattle.host_calls.specs.Machine.{machine_left, processor_turn, run_left, machine_run};
 
-use host_answer::keep::{keep_machine, short_number};
-use host_record::read::machine_lent;
+use host_answer::keep::{keep, short_number};
+use host_answer::write::StoredRecord;
+use host_record::read::lent;
 use whole_calls::call::{peripheral_turn, run};
 use whole_verdict::verdict::machine_verdict;
 
@@ -18,11 +19,8 @@ pub extern "C" fn tozhenab_peripheral_turn(
     ensures { machine_left result central.new peripheral.new machine.new
         ≡ processor_turn central.old peripheral.old machine.old processor }
 {
-    let r = machine_lent(&*machine);
-    let a = peripheral_turn(&mut *central, &mut *peripheral, r, processor);
-    let verdict = a.verdict;
-    let turned = a.machine;
-    keep_machine(&mut *machine, verdict, turned)
+    let r = lent(machine);
+    keep(machine, peripheral_turn(central, peripheral, r, processor))
 }
 
 // Up to so many rounds. The result is the rounds made.
@@ -37,14 +35,19 @@ pub extern "C" fn tozhenab_run(
     ensures { run_left result central.new peripheral.new machine.new res.new
         ≡ machine_run central.old peripheral.old machine.old rounds res.old }
 {
-    let r = machine_lent(&*machine);
+    let r = lent(machine);
     if res.len() < 1 {
-        let verdict = machine_verdict(&*central, &*peripheral, r, true);
-        return short_number(verdict);
+        return short_number(machine_verdict(central, peripheral, r, true));
     }
-    let a = run(&mut *central, &mut *peripheral, r, rounds);
-    let verdict = a.verdict;
-    let after = a.machine;
-    res[0] = a.rounds;
-    keep_machine(&mut *machine, verdict, after)
+    match run(central, peripheral, r, rounds) {
+        Ok(ran) => {
+            res[0] = ran.rounds;
+            ran.machine.store(machine);
+            0
+        }
+        Err(refusal) => {
+            res[0] = 0;
+            refusal.number()
+        }
+    }
 }

@@ -1,2 +1,3 @@
 -- Consequences of the definitions.
 pub mod Lent
+pub mod Read

@@ -30,6 +30,10 @@ unfoldable pub refused_machine : MachineRecord
 refused_machine =
     record { central = refused_central; clock = 0; channels = replicate 12 refused_channel; processors = replicate 10 idle }
 
+-- the record that a slice of numbers is, of so many numbers and with flags that fit, and otherwise the one that is refused
+abbrev pub lent_by : {A : Type 0} → ℕ → (List ℕ → Bool) → (List ℕ → A) → A → List ℕ → A
+lent_by size fits read refused r = cond (eqb (length r) size && fits r) (read r) refused
+
 unfoldable pub central_lent : List ℕ → Central
 central_lent r = cond (eqb (length r) 29) (central_in r) refused_central
 

@@ -1,25 +1,21 @@
 // The record that a slice of numbers holds.
-ghost use Rattle.std.specs.Prelude.{◌≡◌, ◌+◌, ◌≤◌, length};
+ghost use Rattle.std.specs.Prelude.{◌≡◌, ◌+◌, ◌≤◌, length, true, ℕ, List, Bool};
 ghost use Rattle.base_lists.specs.Indexed.{tabulate};
 ghost use Rattle.host_record.specs.Layout.{register_in_numbers, central_in, channel_in, channel_in_machine, processor_in, processor_in_machine, machine_in};
-ghost use Rattle.host_record.specs.Lent.{flags_fit, all_flags_fit, refused_central, refused_channel, refused_machine, central_lent, channel_lent, machine_lent};
+ghost use Rattle.host_record.specs.Lent.{flags_fit, all_flags_fit, refused_central, refused_channel, refused_machine, lent_by, central_lent, channel_lent, machine_lent};
+ghost use Rattle.host_record.specs.Laws.Read.{central-read, channel-read, machine-read};
 
 use central_record::record::Central;
 use peripheral_channel::record::Channel;
 use peripheral_machine::numbers::Processor;
+use std::array;
 use whole_record::record::MachineRecord;
 
 fn registers_in(r: &[u64]) -> [u64; 24]
     requires { 28 ≤ length r.now }
     ensures { result ≡ tabulate 24 (register_in_numbers r.now) }
 {
-    let mut registers = [0u64; 24];
-    let mut i: usize = 0;
-    while i < 24 {
-        registers[i] = r[4 + i];
-        i = i + 1;
-    }
-    registers
+    array::from_fn(|i| r[4 + i])
 }
 
 #[tactic(auto, unfolding(crate::specs::Layout::central_in))]
@@ -54,20 +50,7 @@ fn channels_in(r: &[u64]) -> [Channel; 12]
     requires { 78 ≤ length r.now }
     ensures { result ≡ tabulate 12 (channel_in_machine r.now) }
 {
-    let disconnected = Channel {
-        active: false,
-        full: false,
-        mark: false,
-        word: 0,
-    };
-    let mut channels = [disconnected; 12];
-    let mut i: usize = 0;
-    while i < 12 {
-        let c = channel_in(r, 30 + 4 * i);
-        channels[i] = c;
-        i = i + 1;
-    }
-    channels
+    array::from_fn(|i| channel_in(r, 30 + 4 * i))
 }
 
 fn processor_in(r: &[u64], at: usize) -> Processor
@@ -85,19 +68,7 @@ fn processors_in(r: &[u64]) -> [Processor; 10]
     requires { 108 ≤ length r.now }
     ensures { result ≡ tabulate 10 (processor_in_machine r.now) }
 {
-    let idle = Processor {
-        p: 0,
-        a: 0,
-        stop: 0,
-    };
-    let mut processors = [idle; 10];
-    let mut i: usize = 0;
-    while i < 10 {
-        let q = processor_in(r, 78 + 3 * i);
-        processors[i] = q;
-        i = i + 1;
-    }
-    processors
+    array::from_fn(|i| processor_in(r, 78 + 3 * i))
 }
 
 #[tactic(auto, unfolding(crate::specs::Layout::machine_in))]
@@ -122,13 +93,7 @@ fn flags_fit(r: &[u64], at: usize) -> bool
     requires { at + 4 ≤ length r.now }
     ensures { result ≡ flags_fit r.now at }
 {
-    if 1 < r[at] {
-        return false;
-    }
-    if 1 < r[at + 1] {
-        return false;
-    }
-    r[at + 2] <= 1
+    r[at] <= 1 && r[at + 1] <= 1 && r[at + 2] <= 1
 }
 
 #[tactic(auto, unfolding(crate::specs::Lent::all_flags_fit))]
@@ -136,98 +101,156 @@ fn all_flags_fit(r: &[u64]) -> bool
     requires { 78 ≤ length r.now }
     ensures { result ≡ all_flags_fit r.now }
 {
-    let mut i: usize = 0;
-    while i < 12 {
-        if !flags_fit(r, 30 + 4 * i) {
-            return false;
-        }
-        i = i + 1;
-    }
-    true
+    (0..12).all(|i| flags_fit(r, 30 + 4 * i))
 }
 
-#[tactic(auto, unfolding(crate::specs::Lent::refused_central))]
-fn refused_central() -> Central
-    ensures { result ≡ refused_central }
-{
-    Central {
-        p: 0o1000000,
-        ra: 0,
-        fl: 0,
-        em: 0,
-        registers: [0; 24],
-        stop: 0,
+// P has more than 18 bits.
+const REFUSED_CENTRAL: Central = Central {
+    p: 0o1000000,
+    ra: 0,
+    fl: 0,
+    em: 0,
+    registers: [0; 24],
+    stop: 0,
+};
+
+// The word has more than 12 bits.
+const REFUSED_CHANNEL: Channel = Channel {
+    active: false,
+    full: false,
+    mark: false,
+    word: 0o10000,
+};
+
+const IDLE: Processor = Processor {
+    p: 0,
+    a: 0,
+    stop: 0,
+};
+
+const REFUSED_MACHINE: MachineRecord = MachineRecord {
+    central: REFUSED_CENTRAL,
+    clock: 0,
+    channels: [REFUSED_CHANNEL; 12],
+    processors: [IDLE; 10],
+};
+
+// A record as flat numbers, as a host lends it.
+pub trait FlatRecord: Copy {
+    // How many numbers it has.
+    const LENGTH: usize;
+
+    // What stands in the place of a slice that is no record: number 5 refuses it.
+    // Kept: a record and no `None`, since numbers 1 to 4 come before 5 and the entry point tests them itself (`central_lent`, decision 118).
+    const REFUSED: Self;
+
+    ghost LENGTH: { ℕ };
+
+    ghost REFUSED: { Self };
+
+    ghost flags_fit: { List ℕ → Bool };
+
+    ghost read: { List ℕ → Self };
+
+    ghost lent: { List ℕ → Self };
+
+    // The flags in the record are 0 or 1.
+    fn flags_fit(numbers: &[u64]) -> bool
+        requires { length numbers.now ≡ LENGTH }
+        ensures { result ≡ flags_fit numbers.now };
+
+    // The record that these numbers are.
+    fn read(numbers: &[u64]) -> Self
+        requires { length numbers.now ≡ LENGTH }
+        ensures { result ≡ read numbers.now };
+
+    ghost lent_is_read: { (numbers : List ℕ) → lent numbers ≡ lent_by LENGTH flags_fit read REFUSED numbers };
+}
+
+impl FlatRecord for Central {
+    const LENGTH: usize = 29;
+
+    const REFUSED: Central = REFUSED_CENTRAL;
+
+    ghost LENGTH = { 29 };
+
+    ghost REFUSED = { refused_central };
+
+    ghost flags_fit = { λ numbers. true };
+
+    ghost read = { central_in };
+
+    ghost lent = { central_lent };
+
+    ghost lent_is_read = { central-read };
+
+    fn flags_fit(_numbers: &[u64]) -> bool {
+        true
+    }
+
+    fn read(numbers: &[u64]) -> Central {
+        central_in(numbers)
     }
 }
 
-#[tactic(auto, unfolding(crate::specs::Lent::refused_channel))]
-fn refused_channel() -> Channel
-    ensures { result ≡ refused_channel }
-{
-    Channel {
-        active: false,
-        full: false,
-        mark: false,
-        word: 0o10000,
+impl FlatRecord for Channel {
+    const LENGTH: usize = 4;
+
+    const REFUSED: Channel = REFUSED_CHANNEL;
+
+    ghost LENGTH = { 4 };
+
+    ghost REFUSED = { refused_channel };
+
+    ghost flags_fit = { λ numbers. flags_fit numbers 0 };
+
+    ghost read = { λ numbers. channel_in numbers 0 };
+
+    ghost lent = { channel_lent };
+
+    ghost lent_is_read = { channel-read };
+
+    fn flags_fit(numbers: &[u64]) -> bool {
+        flags_fit(numbers, 0)
+    }
+
+    fn read(numbers: &[u64]) -> Channel {
+        channel_in(numbers, 0)
     }
 }
 
-#[tactic(auto, unfolding(crate::specs::Lent::refused_machine))]
-fn refused_machine() -> MachineRecord
-    ensures { result ≡ refused_machine }
-{
-    let central = refused_central();
-    let channel = refused_channel();
-    let idle = Processor {
-        p: 0,
-        a: 0,
-        stop: 0,
-    };
-    let channels = [channel; 12];
-    let processors = [idle; 10];
-    MachineRecord {
-        central,
-        clock: 0,
-        channels,
-        processors,
+impl FlatRecord for MachineRecord {
+    const LENGTH: usize = 108;
+
+    const REFUSED: MachineRecord = REFUSED_MACHINE;
+
+    ghost LENGTH = { 108 };
+
+    ghost REFUSED = { refused_machine };
+
+    ghost flags_fit = { all_flags_fit };
+
+    ghost read = { machine_in };
+
+    ghost lent = { machine_lent };
+
+    ghost lent_is_read = { machine-read };
+
+    fn flags_fit(numbers: &[u64]) -> bool {
+        all_flags_fit(numbers)
+    }
+
+    fn read(numbers: &[u64]) -> MachineRecord {
+        machine_in(numbers)
     }
 }
 
-// The central record that a host lends.
-#[tactic(auto, unfolding(crate::specs::Lent::central_lent))]
-pub fn central_lent(r: &[u64]) -> Central
-    ensures { result ≡ central_lent r.now }
+// The record that a host lends.
+pub fn lent<R: FlatRecord>(numbers: &[u64]) -> R
+    ensures { result ≡ R.lent numbers.now }
 {
-    if r.len() != 29 {
-        return refused_central();
+    if numbers.len() != R::LENGTH || !R::flags_fit(numbers) {
+        return R::REFUSED;
     }
-    central_in(r)
-}
-
-// The channel that a host lends.
-#[tactic(auto, unfolding(crate::specs::Lent::channel_lent))]
-pub fn channel_lent(r: &[u64]) -> Channel
-    ensures { result ≡ channel_lent r.now }
-{
-    if r.len() != 4 {
-        return refused_channel();
-    }
-    if !flags_fit(r, 0) {
-        return refused_channel();
-    }
-    channel_in(r, 0)
-}
-
-// The machine's record that a host lends.
-#[tactic(auto, unfolding(crate::specs::Lent::machine_lent))]
-pub fn machine_lent(r: &[u64]) -> MachineRecord
-    ensures { result ≡ machine_lent r.now }
-{
-    if r.len() != 108 {
-        return refused_machine();
-    }
-    if !all_flags_fit(r) {
-        return refused_machine();
-    }
-    machine_in(r)
+    R::read(numbers)
 }

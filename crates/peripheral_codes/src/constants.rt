@@ -1,16 +1,15 @@
 // Codes 10 to 17 and 20 to 23.
 ghost use Rattle.std.specs.Prelude.{◌≡◌, ◌^◌, ◌<◌};
 ghost use Rattle.peripheral_codes.specs.Constants.{short_value, short_of, long_value, long_of};
-ghost use Rattle.peripheral_codes.specs.Widths.{Memory, Held};
 
-use super::addresses::{constant, onward};
+use super::addresses::{Registers, View, onward};
 use peripheral_machine::effect::PeripheralEffect;
-use peripheral_machine::numbers::Processor;
 use word_arithmetic::logic::{logical_difference, logical_product, selective_clear};
-use word_arithmetic::sums::{complement18, difference18, sum18};
+use word_arithmetic::sums::{complement, difference, sum};
 use word_shift::shifts::shift_a;
 
 // A after code 1k.
+#[tactic(auto, unfolding(crate::specs::Constants::short_value))]
 fn short_value(k: u64, a: u64, d: u64) -> u64
     requires k_bound { k < 8 }
     requires a_bound { a < 2 ^ 18 }
@@ -23,23 +22,23 @@ fn short_value(k: u64, a: u64, d: u64) -> u64
         2 => logical_product(a, d),
         3 => selective_clear(a, d),
         4 => d,
-        5 => complement18(d),
-        6 => sum18(a, d),
-        _ => difference18(a, d),
+        5 => complement::<18>(d),
+        6 => sum::<18>(a, d),
+        _ => difference::<18>(a, d),
     }
 }
 
 // Code 1k.
-pub fn short_of(q: Processor, k: u64, d: u64) -> PeripheralEffect
-    requires held { Held q }
+pub fn short_of(q: Registers, k: u64, d: u64) -> PeripheralEffect
     requires k_bound { k < 8 }
     requires d_bound { d < 64 }
-    ensures { result ≡ short_of q k d }
+    ensures { result ≡ short_of q.processor k d }
 {
-    PeripheralEffect::Advance(onward(q.p, 1), short_value(k, q.a, d))
+    PeripheralEffect::Advance(onward(q.processor.p, 1), short_value(k, q.processor.a, d))
 }
 
 // A after code 2k, k to 3.
+#[tactic(auto, unfolding(crate::specs::Constants::long_value))]
 fn long_value(k: u64, a: u64, dm: u64) -> u64
     requires k_bound { k < 4 }
     requires a_bound { (a < 2 ^ 18) × (dm < 2 ^ 18) }
@@ -47,20 +46,19 @@ fn long_value(k: u64, a: u64, dm: u64) -> u64
 {
     match k {
         0 => dm,
-        1 => sum18(a, dm),
+        1 => sum::<18>(a, dm),
         2 => logical_product(a, dm),
         _ => logical_difference(a, dm),
     }
 }
 
 // Code 2k, k to 3.
-pub fn long_of(m: &[u16], q: Processor, k: u64, d: u64) -> PeripheralEffect
-    requires memory { Memory m.now }
-    requires held { Held q }
+pub fn long_of(v: &View<'_>, k: u64, d: u64) -> PeripheralEffect
     requires k_bound { k < 4 }
     requires d_bound { d < 64 }
-    ensures { result ≡ long_of m.now q k d }
+    ensures { result ≡ long_of v.now.memory.words.now v.now.registers.processor k d }
 {
-    let dm = constant(m, q.p, d);
+    let q = v.registers.processor;
+    let dm = v.memory.constant(q.p, d);
     PeripheralEffect::Advance(onward(q.p, 2), long_value(k, q.a, dm))
 }

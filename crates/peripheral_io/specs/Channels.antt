@@ -1,11 +1,9 @@
 -- 64 to 67, 70, 72, 74 to 77, on channels 00 to 13, and on channel 14, the clock.
-use Rattle.std.specs.Prelude.{Bool, true, false, not, cond, List, [], ◌∷◌, ℕ, ◌-◌, eqb, ltb, get_or}
+use Rattle.std.specs.Prelude.{Bool, true, false, not, cond, List, [], ◌∷◌, ℕ, ◌-◌, eqb, ltb, get_or, Option, Some, None}
 use Rattle.word_arithmetic.specs.Bits.{low}
 use Rattle.base_outcome.specs.declared.stop.PeripheralStop.TheVariants as Because
 use Rattle.peripheral_channel.specs.Codes.{channel_input, channel_output, activate_of, disconnect_of, function_of}
 use Rattle.peripheral_channel.specs.declared.record.Channel.{Channel}
-use Rattle.peripheral_channel.specs.declared.codes.Change.{Change}
-use Rattle.peripheral_channel.specs.declared.codes.Change.TheVariants as Becomes
 use Rattle.peripheral_machine.specs.Numbers.{channel_of, clock_of}
 use Rattle.peripheral_machine.specs.declared.effect.PeripheralEffect.{PeripheralEffect}
 use Rattle.peripheral_machine.specs.declared.effect.PeripheralEffect.TheVariants.{Advance, SetChannel, Wait, Stop}
@@ -34,9 +32,9 @@ channel_jump m s q k d =
     (cond (condition (jump_channel s d) k) (Advance (second m q.p) q.a) (Advance (onward q.p 2) q.a))
 
 -- "Unmet, the turn changes nothing (a wait)."
-abbrev pub changed : ℕ → ℕ → ℕ → Change → PeripheralEffect
-changed p a d Becomes.Wait = Wait
-changed p a d (Becomes.To c) = SetChannel p a d c
+abbrev pub changed : ℕ → ℕ → ℕ → Option Channel → PeripheralEffect
+changed p a d None = Wait
+changed p a d (Some c) = SetChannel p a d c
 
 -- on channels 00 to 13 alone
 abbrev pub on_channel : ℕ → PeripheralEffect → PeripheralEffect

@@ -1,20 +1,19 @@
 // Codes 64 to 67, 70, 72 and 74 to 77.
 ghost use Rattle.std.specs.Prelude.{◌≡◌, ◌<◌, ◌≤◌};
 ghost use Rattle.peripheral_io.specs.Channels.{condition, jump_channel, channel_jump, changed, input_from, output_to, change_of, change_on};
-ghost use Rattle.peripheral_codes.specs.Widths.{Memory, Held};
 
 use base_outcome::stop::PeripheralStop;
-use peripheral_channel::codes::{Change, activate, disconnect, function, input, output};
 use peripheral_channel::record::Channel;
-use peripheral_codes::addresses::{onward, second};
+use peripheral_codes::addresses::{Registers, View, onward};
 use peripheral_machine::effect::PeripheralEffect;
-use peripheral_machine::numbers::{Processor, channel_of, clock};
-use word_arithmetic::sums::low12;
+use peripheral_machine::numbers::{Numbers, Processor};
+use word_arithmetic::sums::low;
 
 // Channel 14 is the clock, and there is none above it.
 const CLOCK: u64 = 0o14;
 
 // The condition of code 6k, k from 4, of a channel.
+#[tactic(auto, unfolding(crate::specs::Channels::condition))]
 fn condition(c: Channel, k: u64) -> bool
     requires { (4 ≤ k) × (k < 8) }
     ensures { result ≡ condition c k }
@@ -28,100 +27,99 @@ fn condition(c: Channel, k: u64) -> bool
 }
 
 // Channel d, or the clock as an active and full channel.
-fn jump_channel(s: &[u64; 84], d: u64) -> Channel
+#[tactic(auto, unfolding(crate::specs::Channels::jump_channel))]
+fn jump_channel(s: &Numbers, d: u64) -> Channel
     requires { d ≤ 0o14 }
-    ensures { result ≡ jump_channel s.now d }
+    ensures { result ≡ jump_channel s.now.places d }
 {
     if d == CLOCK {
         return Channel {
             active: true,
             full: true,
-            mark: false,
-            word: 0,
+            ..Channel::INACTIVE
         };
     }
-    channel_of(s, d as usize)
+    s.channel(d as usize)
 }
 
 // Code 6k, k from 4.
-pub fn channel_jump(m: &[u16], s: &[u64; 84], q: Processor, k: u64, d: u64) -> PeripheralEffect
-    requires memory { Memory m.now }
-    requires held { Held q }
-    requires le_k { (4 ≤ k) × (k < 8) }
-    ensures { result ≡ channel_jump m.now s.now q k d }
+#[tactic(auto, unfolding(crate::specs::Channels::channel_jump))]
+pub fn channel_jump(v: &View<'_>, s: &Numbers, k: u64, d: u64) -> PeripheralEffect
+    requires { (4 ≤ k) × (k < 8) }
+    ensures { result ≡ channel_jump v.now.memory.words.now s.now.places v.now.registers.processor k d }
 {
     if CLOCK < d {
         return PeripheralEffect::Stop(PeripheralStop::NoChannel);
     }
+    let Processor { p, a, .. } = v.registers.processor;
     if condition(jump_channel(s, d), k) {
-        return PeripheralEffect::Advance(second(m, q.p), q.a);
+        return PeripheralEffect::Advance(v.memory.second(p), a);
     }
-    PeripheralEffect::Advance(onward(q.p, 2), q.a)
+    PeripheralEffect::Advance(onward(p, 2), a)
 }
 
-fn changed(p: u64, a: u64, d: u64, change: Change) -> PeripheralEffect
-    ensures { result ≡ changed p a d change }
+// Channel d becomes this, or the code waits.
+fn changed(p: u64, a: u64, d: u64, next: Option<Channel>) -> PeripheralEffect
+    ensures { result ≡ changed p a d next }
 {
-    match change {
-        Change::Wait => PeripheralEffect::Wait,
-        Change::To(c) => PeripheralEffect::SetChannel(p, a, d as usize, c),
+    match next {
+        Some(c) => PeripheralEffect::SetChannel(p, a, d as usize, c),
+        None => PeripheralEffect::Wait,
     }
 }
 
 // 70.
-pub fn input_from(s: &[u64; 84], q: Processor, d: u64) -> PeripheralEffect
-    requires { Held q }
-    ensures { result ≡ input_from s.now q d }
+#[tactic(auto, unfolding(crate::specs::Channels::input_from))]
+pub fn input_from(s: &Numbers, q: Registers, d: u64) -> PeripheralEffect
+    ensures { result ≡ input_from s.now.places q.processor d }
 {
-    let next = onward(q.p, 1);
+    let next = onward(q.processor.p, 1);
     if d == CLOCK {
-        return PeripheralEffect::Advance(next, clock(s));
+        return PeripheralEffect::Advance(next, s.clock());
     }
     if d < CLOCK {
-        let c = channel_of(s, d as usize);
-        return changed(next, c.word, d, input(c));
+        let c = s.channel(d as usize);
+        return changed(next, c.word, d, c.input());
     }
     PeripheralEffect::Stop(PeripheralStop::NoChannel)
 }
 
 // 72.
-pub fn output_to(s: &[u64; 84], q: Processor, d: u64) -> PeripheralEffect
-    requires { Held q }
-    ensures { result ≡ output_to s.now q d }
+#[tactic(auto, unfolding(crate::specs::Channels::output_to))]
+pub fn output_to(s: &Numbers, q: Registers, d: u64) -> PeripheralEffect
+    ensures { result ≡ output_to s.now.places q.processor d }
 {
+    let Processor { p, a, .. } = q.processor;
     if d < CLOCK { // 72 is not for the clock
-        let c = channel_of(s, d as usize);
-        return changed(onward(q.p, 1), q.a, d, output(c, low12(q.a)));
+        let c = s.channel(d as usize);
+        return changed(onward(p, 1), a, d, c.output(low::<12>(a)));
     }
     PeripheralEffect::Stop(PeripheralStop::NoChannel)
 }
 
 // Code 7k, k from 4, on channel d, whose record is c.
-fn change_of(m: &[u16], c: Channel, q: Processor, k: u64, d: u64) -> PeripheralEffect
-    requires memory { Memory m.now }
-    requires held { Held q }
-    requires le_k { (4 ≤ k) × (k < 8) }
-    ensures { result ≡ change_of m.now c q k d }
+#[tactic(auto, unfolding(crate::specs::Channels::change_of))]
+fn change_of(v: &View<'_>, c: Channel, k: u64, d: u64) -> PeripheralEffect
+    requires { (4 ≤ k) × (k < 8) }
+    ensures { result ≡ change_of v.now.memory.words.now c v.now.registers.processor k d }
 {
-    let next = onward(q.p, 1);
-    let a = q.a;
+    let Processor { p, a, .. } = v.registers.processor;
     match k {
-        4 => changed(next, a, d, activate(c)),
-        5 => changed(next, a, d, disconnect(c)),
-        6 => changed(next, a, d, function(c, low12(a))),
-        _ => changed(onward(q.p, 2), a, d, function(c, second(m, q.p))),
+        4 => changed(onward(p, 1), a, d, c.activate()),
+        5 => changed(onward(p, 1), a, d, c.disconnect()),
+        6 => changed(onward(p, 1), a, d, c.function(low::<12>(a))),
+        _ => changed(onward(p, 2), a, d, c.function(v.memory.second(p))),
     }
 }
 
 // Code 7k, k from 4.
-pub fn change_on(m: &[u16], s: &[u64; 84], q: Processor, k: u64, d: u64) -> PeripheralEffect
-    requires memory { Memory m.now }
-    requires held { Held q }
-    requires le_k { (4 ≤ k) × (k < 8) }
-    ensures { result ≡ change_on m.now s.now q k d }
+#[tactic(auto, unfolding(crate::specs::Channels::change_on))]
+pub fn change_on(v: &View<'_>, s: &Numbers, k: u64, d: u64) -> PeripheralEffect
+    requires { (4 ≤ k) × (k < 8) }
+    ensures { result ≡ change_on v.now.memory.words.now s.now.places v.now.registers.processor k d }
 {
     if d < CLOCK { // 74 to 77 are not for the clock
-        return change_of(m, channel_of(s, d as usize), q, k, d);
+        return change_of(v, s.channel(d as usize), k, d);
     }
     PeripheralEffect::Stop(PeripheralStop::NoChannel)
 }

@@ -5,6 +5,7 @@ use Rattle.std.specs.Prelude.{Bool, cond, List, ℕ, ◌+◌, eqb, get_or, set}
 use Rattle.base_outcome.specs.Numbers.{peripheral_stop_number}
 use Rattle.base_outcome.specs.declared.stop.PeripheralStop.{PeripheralStop}
 use Rattle.peripheral_channel.specs.declared.record.Channel.{Channel}
+use Rattle.central_field.specs.declared.address.Bounds.{Bounds}
 use Rattle.central_record.specs.declared.record.Central.{Central}
 use Rattle.peripheral_machine.specs.declared.numbers.Processor.{Processor}
 
@@ -49,6 +50,9 @@ central_of x s =
 abbrev pub central_p : List ℕ → ℕ
 central_p s = get_or s 78 0
 
+abbrev pub central_bounds : List ℕ → Bounds
+central_bounds s = record { ra = get_or s 79 0; fl = get_or s 80 0; em = get_or s 81 0 }
+
 abbrev pub central_stop : List ℕ → ℕ
 central_stop s = get_or s 82 0
 
@@ -61,3 +65,6 @@ with_central s c = with_controls s c.p c.ra c.fl c.em c.stop
 
 abbrev pub clock_of : List ℕ → ℕ
 clock_of s = get_or s 83 0
+
+abbrev pub with_clock : List ℕ → ℕ → List ℕ
+with_clock s clock = set s 83 clock

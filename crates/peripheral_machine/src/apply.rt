@@ -7,11 +7,13 @@ ghost use Rattle.peripheral_machine.specs.Apply.{with_parts, exchanged_at, perip
 ghost use Rattle.peripheral_machine.specs.Widths.{PeripheralSound};
 
 use super::effect::PeripheralEffect;
-use super::numbers::{advance, central_of, set_channel, set_controls, stop};
+use super::numbers::Numbers;
 use exchange_jump::jump::exchange_jump;
 use word_fields::fields::part;
 
 // The five parts of a word, top part first, from this address up.
+// Kept: five lines, one a part, as document 01 has them ("in five parts, top part first") and `with_parts` of specs/Apply.antt sets them.
+#[tactic(auto, unfolding(crate::specs::Apply::with_parts))]
 fn set_parts(m: &mut [u16], at: usize, w: u64)
     requires { at + 4 < length m.old }
     ensures { m.new ≡ with_parts m.old at w }
@@ -24,62 +26,63 @@ fn set_parts(m: &mut [u16], at: usize, w: u64)
 }
 
 // The exchange jump of 26.
-fn exchange_at(c: &mut [u64], x: &mut [u64; 24], s: &mut [u64; 84], at: usize)
+fn exchange_at(c: &mut [u64], x: &mut [u64; 24], s: &mut Numbers, at: usize)
     requires at_in_bounds { at + 16 ≤ length c.old }
-    requires fits_package { FitsPackage (central_of x.old s.old) }
-    ensures { central_side c.new x.new s.new
-        ≡ exchanged_at c.old x.old s.old at }
+    requires fits_package { FitsPackage (central_of x.old s.old.places) }
+    ensures { central_side c.new x.new s.new.places
+        ≡ exchanged_at c.old x.old s.old.places at }
 {
-    let before = central_of(&*x, &*s);
-    let next = exchange_jump(&mut *c, before, at);
+    let before = s.central(x);
+    let next = exchange_jump(c, before, at);
     let registers = next.registers;
     *x = registers;
-    set_controls(&mut *s, next.p, next.ra, next.fl, next.em, next.stop);
+    s.set_controls(next.p, next.ra, next.fl, next.em, next.stop);
 }
 
 // The effect e of an instruction of processor n, whose own memory is m.
+#[tactic(auto, unfolding(crate::specs::Apply::peripheral_applied))]
 pub fn apply(
     m: &mut [u16],
     c: &mut [u64],
     x: &mut [u64; 24],
-    s: &mut [u64; 84],
+    s: &mut Numbers,
     n: usize,
     e: PeripheralEffect,
 )
     requires m_len { length m.old ≡ 4096 }
-    requires fits_package { FitsPackage (central_of x.old s.old) }
+    requires fits_package { FitsPackage (central_of x.old s.old.places) }
     requires n_bound { n < 10 }
     requires peripheral_sound { PeripheralSound c.old e }
-    ensures { machine m.new c.new x.new s.new
-        ≡ peripheral_applied (machine m.old c.old x.old s.old) n e }
+    ensures { machine m.new c.new x.new s.new.places
+        ≡ peripheral_applied (machine m.old c.old x.old s.old.places) n e }
 {
     match e {
         PeripheralEffect::Advance(p, a) => {
-            advance(&mut *s, n, p, a);
+            s.advance(n, p, a);
         }
         PeripheralEffect::Store(p, a, at, v) => {
             m[at] = v as u16;
-            advance(&mut *s, n, p, a);
+            s.advance(n, p, a);
         }
         PeripheralEffect::ReadCentral(p, a, at, w) => {
-            set_parts(&mut *m, at, w);
-            advance(&mut *s, n, p, a);
+            set_parts(m, at, w);
+            s.advance(n, p, a);
         }
         PeripheralEffect::WriteCentral(p, a, at, w) => {
             c[at] = w;
-            advance(&mut *s, n, p, a);
+            s.advance(n, p, a);
         }
         PeripheralEffect::SetChannel(p, a, i, d) => {
-            set_channel(&mut *s, i, d);
-            advance(&mut *s, n, p, a);
+            s.set_channel(i, d);
+            s.advance(n, p, a);
         }
         PeripheralEffect::Exchange(p, a, at) => {
-            exchange_at(&mut *c, &mut *x, &mut *s, at);
-            advance(&mut *s, n, p, a);
+            exchange_at(c, x, s, at);
+            s.advance(n, p, a);
         }
         PeripheralEffect::Wait => {}
         PeripheralEffect::Stop(why) => {
-            stop(&mut *s, n, why);
+            s.stop(n, why);
         }
     }
 }

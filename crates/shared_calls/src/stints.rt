@@ -1,18 +1,43 @@
 // The stints of a schedule, one after the other.
 ghost use Rattle.std.specs.Prelude.{◌≡◌, ◌<◌, length, get_or};
 ghost use Rattle.shared_schedule.specs.Schedule.{stints_of};
-ghost use Rattle.shared_calls.specs.Answer.{MayRun, stints_to, in_arrays};
+ghost use Rattle.shared_calls.specs.Answer.{MayRun, turns_in, stops_in, stints_to, in_arrays};
 
+use base_outcome::stop::CentralStop;
 use central_record::record::Central;
+use central_turn::turn::stop_number;
 use shared_limits::limits::MOST_STINTS;
 use single_stint::stint::stint;
+use std::array;
 
-// The record after the stints, and of each stint the turns made and the stop's number, or 0. Entries past the last stint are 0.
+// The turns made in a stint, and its stop, if any.
+#[derive(Clone, Copy)]
+pub struct StintResult {
+    pub turns: u64,
+    pub stop: Option<CentralStop>,
+}
+
+// The record after the stints, and the result of each. Entries past the last stint have no turns and no stop.
 #[derive(Clone, Copy)]
 pub struct StintsEnd {
     pub central: Central,
-    pub turns: [u64; MOST_STINTS],
-    pub stops: [u64; MOST_STINTS],
+    pub results: [StintResult; MOST_STINTS],
+}
+
+impl StintsEnd {
+    // The turns made in each stint.
+    pub fn turns(&self) -> [u64; MOST_STINTS]
+        ensures { result ≡ turns_in self.now.results }
+    {
+        array::from_fn(|k| self.results[k].turns)
+    }
+
+    // The number of each stint's stop, or 0.
+    pub fn stops(&self) -> [u64; MOST_STINTS]
+        ensures { result ≡ stops_in self.now.results }
+    {
+        array::from_fn(|k| stop_number(self.results[k].stop))
+    }
 }
 
 // The address of a listed job's package.
@@ -36,21 +61,19 @@ pub(crate) fn run_stints(
         ≡ in_arrays (stints_of jobs.now stint_jobs.now stint_turns.now m.old c) }
 {
     let mut central = c;
-    let mut turns: [u64; MOST_STINTS] = [0; MOST_STINTS];
-    let mut stops: [u64; MOST_STINTS] = [0; MOST_STINTS];
-    let mut k: usize = 0;
-    while k < stint_jobs.len() {
+    let mut results = [StintResult {
+        turns: 0,
+        stop: None,
+    }; MOST_STINTS];
+    for k in 0..stint_jobs.len() {
         let at = package_of(jobs, stint_jobs[k]);
         let n = stint_turns[k];
-        let o = stint(&mut *m, central, at, n);
+        let o = stint(m, central, at, n);
         central = o.central;
-        turns[k] = o.turns;
-        stops[k] = o.stop;
-        k = k + 1;
+        results[k] = StintResult {
+            turns: o.turns,
+            stop: o.stop,
+        };
     }
-    StintsEnd {
-        central,
-        turns,
-        stops,
-    }
+    StintsEnd { central, results }
 }

@@ -1,12 +1,11 @@
 -- Who is named for numbers 6, 7 and 8 is at fault.
 use Rattle.std.proofs.Math.Bool.{true, false}
 use Rattle.std.proofs.Math.Path.{◌≡◌, refl}
-use Rattle.std.specs.Prelude.{ℕ, ◌≤◌, ◌<◌, ltb, leb, eqb, length, get_or}
+use Rattle.std.specs.Prelude.{ℕ, ◌≤◌, ◌<◌, ltb, leb, eqb, length, get_or, Option, Some, None, Err}
 use native.Mathlib.Omega.{arith}
 use borrow.Author.Tests.{ltb-true, ltb-false, eqb-true, eqb-false, le-leb, eq-eqb}
 use Rattle.base_logic.specs.Laws.Choice.{of-cond}
 use Rattle.base_outcome.specs.declared.refusal.Refusal.TheVariants as Refusal
-use Rattle.base_outcome.specs.declared.refusal.Verdict.TheVariants as Call
 use Rattle.central_record.specs.Record.{below}
 use Rattle.single_calls.specs.Turns.{most_turns}
 use Rattle.shared_limits.specs.Laws.Limits.{few-jobs-fit}
@@ -17,17 +16,16 @@ use Rattle.shared_fault.specs.Fault.{length_fault, finding_of}
 use Rattle.shared_fault.proofs.Findings.{NamesFirst, names-first}
 use Rattle.shared_fault.specs.Laws.Order.{schedule-told}
 use Rattle.shared_fault.specs.declared.fault.Fault.{Fault}
-use Rattle.shared_fault.specs.declared.fault.Fault.TheVariants as Fault
 
 -- 6: what is named is so; where nobody is, the lists are of unequal length
-abbrev pub WrongLength : Schedule → Fault → Type 0
-WrongLength s Fault.Nobody = length s.stint_jobs ≡ length s.stint_turns → ⊥
-WrongLength s Fault.NoJob = length s.jobs ≡ 0
-WrongLength s (Fault.Job i) = (i ≡ most_jobs) × (most_jobs < length s.jobs)
-WrongLength s (Fault.Stint i) = (i ≡ most_stints) × (most_stints < length s.stint_jobs)
-WrongLength s (Fault.PackageField i j) = ⊥
-WrongLength s (Fault.Packages i j) = ⊥
-WrongLength s (Fault.Fields i j) = ⊥
+abbrev pub WrongLength : Schedule → Option Fault → Type 0
+WrongLength s None = length s.stint_jobs ≡ length s.stint_turns → ⊥
+WrongLength s (Some Fault.NoJob) = length s.jobs ≡ 0
+WrongLength s (Some (Fault.Job i)) = (i ≡ most_jobs) × (most_jobs < length s.jobs)
+WrongLength s (Some (Fault.Stint i)) = (i ≡ most_stints) × (most_stints < length s.stint_jobs)
+WrongLength s (Some (Fault.PackageField i j)) = ⊥
+WrongLength s (Some (Fault.Packages i j)) = ⊥
+WrongLength s (Some (Fault.Fields i j)) = ⊥
 
 module _ (s : Schedule) where
   -- lists that are neither too short nor too long, and yet do not fit
@@ -51,18 +49,18 @@ module _ (s : Schedule) where
       unequal e (omega (arith, eqb-false (length s.jobs) 0 some)) (ltb-false most_jobs (length s.jobs) few)
       (ltb-false most_stints (length s.stint_jobs) short))))
 
-  pub list-length-named : schedule_verdict s ≡ Call.Refused Refusal.ListLength → WrongLength s (finding_of s).fault
+  pub list-length-named : schedule_verdict s ≡ Err Refusal.ListLength → WrongLength s (finding_of s).fault
   unfolding finding_of
   list-length-named e = rw e (wrong-length (schedule-told s _ e).1.1.1)
 
   -- 7
-  pub unlisted-stint-named : schedule_verdict s ≡ Call.Refused Refusal.UnlistedJob
+  pub unlisted-stint-named : schedule_verdict s ≡ Err Refusal.UnlistedJob
       → NamesFirst s Fault.Stint (length s.stint_jobs) (below (length s.jobs) s.stint_jobs)
   unfolding jobs_listed
   unlisted-stint-named e = names-first s e refl (schedule-told s _ e).1.1.1.1
 
   -- 8
-  pub long-stint-named : schedule_verdict s ≡ Call.Refused Refusal.TooManyTurns
+  pub long-stint-named : schedule_verdict s ≡ Err Refusal.TooManyTurns
       → NamesFirst s Fault.Stint (length s.stint_turns) (λ i. leb (get_or s.stint_turns i 0) most_turns)
   unfolding turns_fit
   long-stint-named e = names-first s e refl (schedule-told s _ e).1.1.1.1.1

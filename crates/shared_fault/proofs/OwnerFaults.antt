@@ -1,12 +1,11 @@
 -- Who is named for numbers 9 to 12 is at fault.
-use Rattle.std.specs.Prelude.{Bool, true, false, ◌||◌, List, ◌≡◌, refl, ℕ, leb, eqb, length, get_or}
+use Rattle.std.specs.Prelude.{Bool, true, false, ◌||◌, List, ◌≡◌, refl, ℕ, leb, eqb, length, get_or, Option, Some, None, Err}
 use Rattle.std.proofs.Common.{arith}
 use borrow.Author.Tests.{leb-true, eqb-false, not-false}
 use Rattle.base_logic.specs.Laws.Choice.{of-cond}
 use Rattle.base_logic.specs.Laws.Tests.{both}
 use Rattle.base_lists.specs.Indexed.{all_below}
 use Rattle.base_outcome.specs.declared.refusal.Refusal.TheVariants as Refusal
-use Rattle.base_outcome.specs.declared.refusal.Verdict.TheVariants as Call
 use Rattle.exchange_jump.specs.Jump.{package_inside, package_clean, field_inside}
 use Rattle.shared_schedule.specs.Refusals.{every_job, package_meets_field, packages_meet, fields_meet, jobs_apart, all_apart, schedule_verdict}
 use Rattle.shared_schedule.specs.Schedule.{Schedule}
@@ -16,29 +15,28 @@ use Rattle.shared_fault.proofs.Findings.{NamesFirst, names-first}
 use Rattle.shared_fault.specs.Laws.Order.{schedule-told}
 use Rattle.shared_fault.proofs.Search.{First, first-failing}
 use Rattle.shared_fault.specs.declared.fault.Fault.{Fault}
-use Rattle.shared_fault.specs.declared.fault.Fault.TheVariants as Fault
 
 module _ (s : Schedule) where
   -- 9
-  pub package-past-end-named : schedule_verdict s ≡ Call.Refused Refusal.PackagePastEnd
+  pub package-past-end-named : schedule_verdict s ≡ Err Refusal.PackagePastEnd
       → NamesFirst s Fault.Job (length s.jobs) (λ i. package_inside s.memory (get_or s.jobs i 0))
   package-past-end-named e = names-first s e refl (schedule-told s _ e).1.1.1.1.1.1
 
   -- 10: every package may be read
-  pub stray-told : schedule_verdict s ≡ Call.Refused Refusal.StrayBits
+  pub stray-told : schedule_verdict s ≡ Err Refusal.StrayBits
       → (every_job s.jobs (package_inside s.memory) ≡ true) × (every_job s.jobs (package_clean s.memory) ≡ false)
   stray-told e = (schedule-told s _ e).1.1.1.1.1.1
 
-  pub stray-bits-named : schedule_verdict s ≡ Call.Refused Refusal.StrayBits
+  pub stray-bits-named : schedule_verdict s ≡ Err Refusal.StrayBits
       → NamesFirst s Fault.Job (length s.jobs) (λ i. package_clean s.memory (get_or s.jobs i 0))
   stray-bits-named e = names-first s e refl (stray-told e).1
 
   -- 11: so it may here
-  pub field_told : schedule_verdict s ≡ Call.Refused Refusal.FieldPastEnd
+  pub field_told : schedule_verdict s ≡ Err Refusal.FieldPastEnd
       → (every_job s.jobs (package_inside s.memory) ≡ true) × (every_job s.jobs (field_inside s.memory) ≡ false)
   field_told e = let owners = (schedule-told s _ e).1.1.1.1.1.1 in (owners.0, owners.1.1)
 
-  pub field-past-end-named : schedule_verdict s ≡ Call.Refused Refusal.FieldPastEnd
+  pub field-past-end-named : schedule_verdict s ≡ Err Refusal.FieldPastEnd
       → NamesFirst s Fault.Job (length s.jobs) (λ i. field_inside s.memory (get_or s.jobs i 0))
   field-past-end-named e = names-first s e refl (field_told e).1
 
@@ -60,21 +58,21 @@ module _ (m jobs : List ℕ) where
       record { one = one; other = first-failing (jobs_apart m jobs (first_not_apart m jobs)) (length jobs) one.fails }
 
   -- the word in common that a fault names is there; two packages or two fields are of different jobs
-  abbrev pub Overlap : Fault → Type 0
-  Overlap Fault.Nobody = ⊥
-  Overlap Fault.NoJob = ⊥
-  Overlap (Fault.Job i) = ⊥
-  Overlap (Fault.Stint i) = ⊥
-  Overlap (Fault.PackageField i j) = package_meets_field m (get_or jobs i 0) (get_or jobs j 0) ≡ true
-  Overlap (Fault.Packages i j) = (i ≡ j → ⊥) × (packages_meet (get_or jobs i 0) (get_or jobs j 0) ≡ true)
-  Overlap (Fault.Fields i j) = (i ≡ j → ⊥) × (fields_meet m (get_or jobs i 0) (get_or jobs j 0) ≡ true)
+  abbrev pub Overlap : Option Fault → Type 0
+  Overlap None = ⊥
+  Overlap (Some Fault.NoJob) = ⊥
+  Overlap (Some (Fault.Job i)) = ⊥
+  Overlap (Some (Fault.Stint i)) = ⊥
+  Overlap (Some (Fault.PackageField i j)) = package_meets_field m (get_or jobs i 0) (get_or jobs j 0) ≡ true
+  Overlap (Some (Fault.Packages i j)) = (i ≡ j → ⊥) × (packages_meet (get_or jobs i 0) (get_or jobs j 0) ≡ true)
+  Overlap (Some (Fault.Fields i j)) = (i ≡ j → ⊥) × (fields_meet m (get_or jobs i 0) (get_or jobs j 0) ≡ true)
 
-  pair-overlaps : (i j : ℕ) → jobs_apart m jobs i j ≡ false → Overlap (pair_fault m jobs i j)
+  pair-overlaps : (i j : ℕ) → jobs_apart m jobs i j ≡ false → Overlap (Some (pair_fault m jobs i j))
   unfolding jobs_apart pair_fault
   pair-overlaps i j e =
-      of-cond Overlap (package_meets_field m (get_or jobs i 0) (get_or jobs j 0)) (λ h. h)
+      of-cond (λ (f : Fault). Overlap (Some f)) (package_meets_field m (get_or jobs i 0) (get_or jobs j 0)) (λ h. h)
       (λ h. let rest = neither (eqb i j) _ (rw h at e) in
-      of-cond Overlap (packages_meet (get_or jobs i 0) (get_or jobs j 0))
+      of-cond (λ (f : Fault). Overlap (Some f)) (packages_meet (get_or jobs i 0) (get_or jobs j 0))
       (λ p. (eqb-false i j rest.0, p))
       (λ p. (eqb-false i j rest.0, not-false _ (rw p at rest.1))))
 
@@ -82,13 +80,13 @@ module _ (m jobs : List ℕ) where
 pub record NamesPair (s : Schedule) : Type 0 where
   pub one : ℕ
   pub other : ℕ
-  pub named : (finding_of s).fault ≡ pair_fault s.memory s.jobs one other
+  pub named : (finding_of s).fault ≡ Some (pair_fault s.memory s.jobs one other)
   pub first : FirstPair s.memory s.jobs one other
   pub overlap : Overlap s.memory s.jobs (finding_of s).fault
 
 module _ (s : Schedule) where
   -- every package and field may be read
-  pub overlap-told : schedule_verdict s ≡ Call.Refused Refusal.SharedWord
+  pub overlap-told : schedule_verdict s ≡ Err Refusal.SharedWord
       → Inside s.memory s.jobs × (all_apart s.memory s.jobs ≡ false)
   overlap-told e =
       let host = schedule-told s _ e in
@@ -101,7 +99,7 @@ module _ (s : Schedule) where
         owners.1.1.1,
       )
 
-  pub shared-word-named : schedule_verdict s ≡ Call.Refused Refusal.SharedWord → NamesPair s
+  pub shared-word-named : schedule_verdict s ≡ Err Refusal.SharedWord → NamesPair s
   unfolding finding_of
   shared-word-named e =
       let first = first-pair s.memory s.jobs (overlap-told e).1 in

@@ -1,13 +1,14 @@
 -- What the first number of which a test does not hold is, and the loop that finds it.
-use Rattle.std.specs.Prelude.{Bool, true, false, ◌&&◌, List, leb, length, get_or}
+use Rattle.std.specs.Prelude.{Bool, true, false, ◌&&◌, List, leb, length, get_or, Option, Some, None, unwrap_or, MatchOption}
 use Rattle.std.proofs.Common.{⊎_elim, sym}
 use Rattle.std.proofs.Math.Path.{◌≡◌, refl}
+use Rattle.std.specs.List.{AllWithin, HoldsAt}
 use Prim.Native.Nat.{ℕ, zero, suc, ◌≤◌, ◌<◌}
 use native.Mathlib.Omega.{arith}
 use Rattle.std.proofs.Math.Dec.{leb-suc-suc}
 use Rattle.base_logic.specs.Laws.Choice.{le-or-lt}
 use Rattle.base_lists.specs.Indexed.{all_below}
-use Rattle.base_lists.specs.Laws.Indexed.{Passed, all-at, one-fails}
+use Rattle.base_lists.specs.Laws.Indexed.{all-at, all_of, one-fails}
 use Rattle.central_record.specs.Record.{below}
 use Rattle.shared_fault.specs.Search.{first_failing}
 
@@ -45,14 +46,24 @@ module _ (test : ℕ → Bool) where
   first-failing zero e = let z : ◌≡◌ {A = ℕ} 0 1 = cc in absurd (omega arith)
   first-failing (suc n) e = rw e (first_next n e (first-failing n) (all_below n test) refl)
 
--- the loop that leaves at the first that fails
-module _ (test : ℕ → Bool) (n : ℕ) where
-  pub found : (i : ℕ) → Passed test n i → i < n → test i ≡ false → i ≡ first_failing n test
-  found i p l e = sym (is-first test n i l p.passed e)
-
-  pub none_found : (i : ℕ) → Passed test n i → n ≤ i → i ≡ first_failing n test
-  none_found i p l = let e : n ≡ i = omega (arith, p.most) in rw e (sym (all_hold test i p.passed))
+-- what a search of the numbers below n finds, or n
+pub found-first : (test : ℕ → Bool) (n : ℕ) (r : Option ℕ)
+    → MatchOption r ((k : ℕ) → 0 ≤ k → k < n → test k ≡ true) (λ i. (0 ≤ i) × (i < n) × (test i ≡ false) × ((k : ℕ) → 0 ≤ k → k < i → test k ≡ true))
+    → unwrap_or r n ≡ first_failing n test
+found-first test n None h = sym (all_hold test n (all_of test n (λ k l. h k (omega arith) l)))
+found-first test n (Some i) h = sym (is-first test n i h.1 (all_of test i (λ k l. h.3 k (omega arith) l)) h.2)
 
 -- below the next number is at most the number
 pub first-below-suc : (n : ℕ) (m : List ℕ) → first_failing (length m) (below (suc n) m) ≡ first_failing (length m) (λ i. leb (get_or m i 0) n)
 first-below-suc n m = λ j. first_failing (length m) (λ i. leb-suc-suc (get_or m i 0) n j)
+
+-- the place that a search of a list finds, or the list's length
+pub found-position : (test : ℕ → Bool) (xs : List ℕ) (r : Option ℕ)
+    → MatchOption r (AllWithin (λ x. test x ≡ true) xs 0 (length xs)) (λ i. (i < length xs) × HoldsAt (λ x. test x ≡ false) xs i × AllWithin (λ x. test x ≡ true) xs 0 i)
+    → unwrap_or r (length xs) ≡ first_failing (length xs) (λ i. test (get_or xs i 0))
+found-position test xs None h =
+    let t = λ (i : ℕ). test (get_or xs i 0) in
+    sym (all_hold t (length xs) (all_of t (length xs) (λ k l. h k 0 (omega arith) l)))
+found-position test xs (Some i) h =
+    let t = λ (i : ℕ). test (get_or xs i 0) in
+    sym (is-first t (length xs) i h.0 (all_of t i (λ k l. h.2 k 0 (omega arith) l)) (h.1 0))

@@ -1,8 +1,7 @@
-// Who is at fault in a refused schedule: jobs and stints by their numbers, from 0.
-#[derive(Clone, Copy)]
+// Who is at fault in a refused schedule: jobs and stints by their numbers, from 0. Nobody is where a schedule is refused for the host's
+// memory or record, or for lists of unequal length.
+#[derive(Clone, Copy, Debug, PartialEq, Eq)]
 pub enum Fault {
-    // Nobody by himself: the schedule is accepted, or refused for the host's memory or record or for lists of unequal length.
-    Nobody,
     // 6: no job is listed.
     NoJob,
     // 6: the first job past the limit. 9 to 11: the first job that the number refuses.

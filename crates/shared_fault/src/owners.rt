@@ -9,21 +9,15 @@ use super::fault::Fault;
 use base_lists::overlap::shares_word;
 use exchange_jump::jump::{field_inside, package_is_inside};
 use exchange_package::package::{has_stray, load};
-use shared_verdict::owners::{apart_from_all, jobs_apart};
+use shared_verdict::owners::Packages;
 
 // Number 9. An address is any number, and nothing is read at it before this test.
 pub(crate) fn first_past_end(m: &[u64], jobs: &[u64]) -> usize
     ensures { result ≡ first_job jobs.now (package_inside m.now) }
 {
-    let words = m.len() as u64;
-    let mut i: usize = 0;
-    while i < jobs.len() {
-        if !package_is_inside(words, jobs[i]) {
-            return i;
-        }
-        i = i + 1;
-    }
-    i
+    jobs.iter()
+        .position(|job| !package_is_inside(m.len() as u64, *job))
+        .unwrap_or(jobs.len())
 }
 
 // Number 10.
@@ -31,14 +25,9 @@ pub(crate) fn first_stray(m: &[u64], jobs: &[u64]) -> usize
     requires { every_job jobs.now (package_inside m.now) ≡ true }
     ensures { result ≡ first_job jobs.now (package_clean m.now) }
 {
-    let mut i: usize = 0;
-    while i < jobs.len() {
-        if has_stray(m, jobs[i] as usize) {
-            return i;
-        }
-        i = i + 1;
-    }
-    i
+    jobs.iter()
+        .position(|job| has_stray(m, *job as usize))
+        .unwrap_or(jobs.len())
 }
 
 // Number 11.
@@ -46,56 +35,38 @@ pub(crate) fn first_field_past_end(m: &[u64], jobs: &[u64]) -> usize
     requires { every_job jobs.now (package_inside m.now) ≡ true }
     ensures { result ≡ first_job jobs.now (field_inside m.now) }
 {
-    let mut i: usize = 0;
-    while i < jobs.len() {
-        if !field_inside(m, jobs[i] as usize) {
-            return i;
-        }
-        i = i + 1;
-    }
-    i
+    jobs.iter()
+        .position(|job| !field_inside(m, *job as usize))
+        .unwrap_or(jobs.len())
 }
 
 // The first job that is not apart from every job.
-fn first_not_apart(m: &[u64], jobs: &[u64]) -> usize
-    requires { Inside m.now jobs.now }
-    ensures { result ≡ first_not_apart m.now jobs.now }
+fn first_not_apart(p: &Packages<'_>) -> usize
+    ensures { result ≡ first_not_apart p.now.memory.now p.now.jobs.now }
 {
-    let mut i: usize = 0;
-    while i < jobs.len() {
-        if !apart_from_all(m, jobs, i) {
-            return i;
-        }
-        i = i + 1;
-    }
-    i
+    (0..p.jobs.len())
+        .find(|i| !p.apart_from_all(*i))
+        .unwrap_or(p.jobs.len())
 }
 
 // The first job that job i is not apart from.
-fn first_met(m: &[u64], jobs: &[u64], i: usize) -> usize
-    requires inside { Inside m.now jobs.now }
-    requires i_in_bounds { i < length jobs.now }
-    ensures { result ≡ first_met m.now jobs.now i }
+fn first_met(p: &Packages<'_>, i: usize) -> usize
+    requires { i < length p.now.jobs.now }
+    ensures { result ≡ first_met p.now.memory.now p.now.jobs.now i }
 {
-    let mut j: usize = 0;
-    while j < jobs.len() {
-        if !jobs_apart(m, jobs, i, j) {
-            return j;
-        }
-        j = j + 1;
-    }
-    j
+    (0..p.jobs.len())
+        .find(|j| !p.jobs_apart(i, *j))
+        .unwrap_or(p.jobs.len())
 }
 
 // What jobs i and j have a word of in common.
-fn pair_fault(m: &[u64], jobs: &[u64], i: usize, j: usize) -> Fault
-    requires inside { Inside m.now jobs.now }
-    requires i_in_bounds { (i < length jobs.now) × (j < length jobs.now) }
-    ensures { result ≡ pair_fault m.now jobs.now i j }
+fn pair_fault(p: &Packages<'_>, i: usize, j: usize) -> Fault
+    requires { (i < length p.now.jobs.now) × (j < length p.now.jobs.now) }
+    ensures { result ≡ pair_fault p.now.memory.now p.now.jobs.now i j }
 {
-    let a = jobs[i];
-    let b = jobs[j];
-    let second = load(m, b as usize);
+    let a = p.jobs[i];
+    let b = p.jobs[j];
+    let second = load(p.memory, b as usize);
     if shares_word(a, 16, second.ra, second.fl) {
         return Fault::PackageField(i as u64, j as u64);
     }
@@ -106,12 +77,11 @@ fn pair_fault(m: &[u64], jobs: &[u64], i: usize, j: usize) -> Fault
 }
 
 // Number 12.
-pub(crate) fn overlap_fault(m: &[u64], jobs: &[u64]) -> Fault
-    requires inside { Inside m.now jobs.now }
-    requires jobs_value { all_apart m.now jobs.now ≡ false }
-    ensures { result ≡ overlap_fault m.now jobs.now }
+pub(crate) fn overlap_fault(p: &Packages<'_>) -> Fault
+    requires { all_apart p.now.memory.now p.now.jobs.now ≡ false }
+    ensures { result ≡ overlap_fault p.now.memory.now p.now.jobs.now }
 {
-    let i = first_not_apart(m, jobs);
-    let j = first_met(m, jobs, i);
-    pair_fault(m, jobs, i, j)
+    let i = first_not_apart(p);
+    let j = first_met(p, i);
+    pair_fault(p, i, j)
 }

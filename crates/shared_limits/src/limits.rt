@@ -7,14 +7,9 @@ pub const MOST_JOBS: usize = 11;
 pub const MOST_STINTS: usize = 256;
 
 // Whether a list may have so many jobs: at least one, and no more than the limit.
+#[tactic(auto, unfolding(crate::specs::Limits::jobs_fit))]
 pub fn jobs_fit(n: usize) -> bool
     ensures { result ≡ jobs_fit n }
 {
-    if n == 0 {
-        return false;
-    }
-    if MOST_JOBS < n {
-        return false;
-    }
-    true
+    (1..=MOST_JOBS).contains(&n)
 }

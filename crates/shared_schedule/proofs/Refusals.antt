@@ -1,8 +1,7 @@
 -- What an accepted schedule is.
-use Rattle.std.specs.Prelude.{Bool, true, false, not, ◌&&◌, ◌||◌, List, ◌≡◌, ℕ, ◌+◌, ◌≤◌, ◌<◌, ltb, leb, eqb, length, get_or}
+use Rattle.std.specs.Prelude.{Bool, true, false, not, ◌&&◌, ◌||◌, List, ◌≡◌, ℕ, ◌+◌, ◌≤◌, ◌<◌, ltb, leb, eqb, length, get_or, Ok}
 use Rattle.std.proofs.Common.{ltb-true, leb-true, eqb-true, ne_eqb}
 use Rattle.std.proofs.lemmas.Bool.{not-true}
-use Rattle.base_outcome.specs.declared.refusal.Verdict.TheVariants as Call
 use Rattle.exchange_jump.specs.Jump.{record_at, package_inside, package_clean, field_inside}
 use Rattle.base_logic.specs.Laws.Tests.{both}
 use Rattle.base_lists.specs.Laws.Indexed.{all-at}
@@ -48,7 +47,7 @@ pub record ListsAccepted (jobs js ts : List ℕ) : Type 0 where
   pub listed : Listed jobs js
   pub turns : (k : ℕ) → k < length ts → get_or ts k 0 ≤ most_turns
 
-pub lists-accepted : (jobs js ts : List ℕ) → lists_verdict jobs js ts ≡ Call.Accepted → ListsAccepted jobs js ts
+pub lists-accepted : (jobs js ts : List ℕ) → lists_verdict jobs js ts ≡ Ok tt → ListsAccepted jobs js ts
 unfolding lists_verdict jobs_listed turns_fit
 lists-accepted jobs js ts e =
     let t₆ = by-test (lists_fit jobs js ts) _ _ e in
@@ -68,7 +67,7 @@ pub record OwnersAccepted (m jobs : List ℕ) : Type 0 where
 every : (jobs : List ℕ) (test : ℕ → Bool) → every_job jobs test ≡ true → (i : ℕ) → i < length jobs → test (get_or jobs i 0) ≡ true
 every jobs test e = all-at (λ i. test (get_or jobs i 0)) (length jobs) e
 
-pub owners-accepted : (m jobs : List ℕ) → owners_verdict m jobs ≡ Call.Accepted → OwnersAccepted m jobs
+pub owners-accepted : (m jobs : List ℕ) → owners_verdict m jobs ≡ Ok tt → OwnersAccepted m jobs
 unfolding owners_verdict package_inside package_clean field_inside all_apart
 owners-accepted m jobs e =
     let t₉ = by-test (every_job jobs (package_inside m)) _ _ e in
@@ -117,8 +116,8 @@ ready m c jobs host count o =
 
 -- an accepted schedule may run
 module _ (s : Schedule) (a : ScheduleAccepted s) where
-  verdicts : (host_verdict s.memory s.central ≡ Call.Accepted)
-      × ((lists_verdict s.jobs s.stint_jobs s.stint_turns ≡ Call.Accepted) × (owners_verdict s.memory s.jobs ≡ Call.Accepted))
+  verdicts : (host_verdict s.memory s.central ≡ Ok tt)
+      × ((lists_verdict s.jobs s.stint_jobs s.stint_turns ≡ Ok tt) × (owners_verdict s.memory s.jobs ≡ Ok tt))
   unfolding schedule_verdict
   verdicts =
       let first = both-accept (host_verdict s.memory s.central) _ a.verdict in

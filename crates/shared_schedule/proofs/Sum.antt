@@ -1,9 +1,10 @@
 -- A job's own stints, where none but the last stops, are one stint of the turns of all.
-use Rattle.std.specs.Prelude.{List, [], ◌∷◌, ◌≡◌, ℕ, ◌+◌, ◌≤◌}
-use Rattle.std.proofs.Common.{sym, ap, ◌∙◌, add-zero}
+use Rattle.std.specs.Prelude.{List, [], ◌∷◌, None, ◌≡◌, ℕ, ◌+◌, ◌≤◌}
+use Rattle.std.proofs.Common.{sym, ap, ◌∙◌, add-zero, eq-eqb}
 use Rattle.central_turn.specs.Laws.Run.{RunKept, run-left, turns-then-turns}
 use Rattle.central_apply.specs.State.{state}
-use Rattle.central_turn.specs.Turn.{turns_before, turns_of}
+use Rattle.central_turn.specs.Laws.Stop.{is-none, number-of-none}
+use Rattle.central_turn.specs.Turn.{stop_number, turns_before, turns_of}
 use Rattle.central_apply.specs.Widths.{StateKept}
 use Rattle.exchange_package.specs.Laws.Package.{running, record-of-coded}
 use Rattle.exchange_package.specs.Package.{coded, package_record}
@@ -49,12 +50,15 @@ module _ (w : Job) (f : JobFits w) (n : ℕ) where
         kept = rw next-record run-leaves.kept;
       }
 
-  module _ (k : ℕ) (going : (job_run n w).end.stop ≡ 0) where
+  module _ (k : ℕ) (going : stop_number (job_run n w).end.stop ≡ 0) where
+    no-stop : (job_run n w).end.stop ≡ None
+    no-stop = is-none (job_run n w).end.stop (sym (number-of-none (job_run n w).end.stop) ∙ eq-eqb _ 0 going)
+
     -- n turns without a stop and then k are n + k turns
     run_on : job_run (n + k) w ≡ turns_before (job_run n w).end.turns (job_run k (job_after w (job_run n w)))
     run_on =
         rw next-record
-        (turns-then-turns n k (bounds_of first) first.p (state first.registers w.field_words) going)
+        (turns-then-turns n k (bounds_of first) first.p (state first.registers w.field_words) no-stop)
 
     after_on : job_after w (job_run (n + k) w) ≡ job_after (job_after w (job_run n w)) (job_run k (job_after w (job_run n w)))
     after_on = rw (run_on, next-record)
@@ -66,7 +70,7 @@ total_of l = record { job = l.job; turns = total l.turns; stop = last_of l.stops
 abbrev made_before : ℕ → JobStint → JobStint
 made_before n o = record { job = o.job; turns = n + o.turns; stop = o.stop }
 
-one_more : (t k : ℕ) (w : Job) → JobFits w → (job_run t w).end.stop ≡ 0
+one_more : (t k : ℕ) (w : Job) → JobFits w → stop_number (job_run t w).end.stop ≡ 0
     → made_before (job_run t w).end.turns (job_stint k (job_after w (job_run t w))) ≡ job_stint (t + k) w
 one_more t k w f going = rw (after_on w f t k going, run_on w f t k going)
 

@@ -1,8 +1,7 @@
 -- Demand 3, as it stands in the demands, document 00, with the words that document 01 fixes under "Words of demand 3". Each definition
 -- quotes the clause that it states: of the demand at `Alike`, `StopsInLastOnly`, `EndsAlike`, `Isolation` and `RestKept`, else of
 -- document 01. Laws.Isolation proves it.
-use Rattle.std.specs.Prelude.{cond, List, [], ◌∷◌, ◌⊎◌, ◌≡◌, ℕ, ◌+◌, ◌≤◌, ◌<◌, eqb, length, get_or}
-use Rattle.base_outcome.specs.declared.refusal.Verdict.TheVariants as Call
+use Rattle.std.specs.Prelude.{cond, List, [], ◌∷◌, ◌⊎◌, ◌≡◌, ℕ, ◌+◌, ◌≤◌, ◌<◌, eqb, length, get_or, Ok}
 use Rattle.exchange_jump.specs.Jump.{record_at}
 use Rattle.base_lists.specs.Parts.{part}
 use Rattle.central_record.specs.declared.record.Central.{Central}
@@ -11,7 +10,7 @@ use Rattle.shared_schedule.specs.Refusals.{schedule_verdict}
 
 -- "it is accepted where no number refuses it"; a record of the host's has 24 registers by its type
 pub record ScheduleAccepted (s : Schedule) : Type 0 where
-  pub verdict : schedule_verdict s ≡ Call.Accepted
+  pub verdict : schedule_verdict s ≡ Ok tt
   pub registers : length s.central.registers ≡ 24
 
 -- "The start is the memory given, the end the memory handed back."

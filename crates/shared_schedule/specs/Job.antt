@@ -1,7 +1,7 @@
 -- A job by itself: the words of its package and of its field, and its own stints on these alone.
 use Rattle.std.specs.Prelude.{List, [], ◌∷◌, ℕ, get_or}
 use Rattle.central_apply.specs.State.{state}
-use Rattle.central_turn.specs.Turn.{Run}
+use Rattle.central_turn.specs.Turn.{stop_number, Run}
 use Rattle.exchange_jump.specs.Jump.{record_at}
 use Rattle.base_lists.specs.Parts.{part}
 use Rattle.exchange_package.specs.Package.{coded, package_record}
@@ -33,7 +33,7 @@ pub record JobStint : Type 0 where
   pub stop : ℕ
 
 abbrev pub job_stint : ℕ → Job → JobStint
-job_stint n w = record { job = job_after w (job_run n w); turns = (job_run n w).end.turns; stop = (job_run n w).end.stop }
+job_stint n w = record { job = job_after w (job_run n w); turns = (job_run n w).end.turns; stop = stop_number (job_run n w).end.stop }
 
 -- the job after a list of stints, and of each the turns made and the stop's number, or 0
 pub record JobEnd : Type 0 where

@@ -1,8 +1,7 @@
 -- Which schedules are refused, by document 01, "Who can be turned down": "Lowest number first, over all jobs before the next number".
-use Rattle.std.specs.Prelude.{Bool, not, ◌&&◌, ◌||◌, cond, List, ℕ, leb, eqb, length, get_or}
+use Rattle.std.specs.Prelude.{Bool, not, ◌&&◌, ◌||◌, cond, List, ℕ, leb, eqb, length, get_or, Ok, Err}
 use Rattle.base_outcome.specs.declared.refusal.Refusal.TheVariants as Refusal
-use Rattle.base_outcome.specs.declared.refusal.Verdict.TheVariants as Call
-use Rattle.base_outcome.specs.declared.refusal.Verdict.{Verdict}
+use Rattle.base_outcome.specs.Verdict.{Verdict}
 use Rattle.base_lists.specs.Indexed.{all_below}
 use Rattle.exchange_jump.specs.Jump.{record_at, package_inside, package_clean, field_inside}
 use Rattle.central_record.specs.Record.{below, host_verdict}
@@ -32,9 +31,9 @@ unfoldable pub lists_verdict : List ℕ → List ℕ → List ℕ → Verdict
 lists_verdict jobs stint_jobs stint_turns =
     cond (lists_fit jobs stint_jobs stint_turns)
     (cond (jobs_listed jobs stint_jobs)
-    (cond (turns_fit stint_turns) Call.Accepted (Call.Refused Refusal.TooManyTurns))
-    (Call.Refused Refusal.UnlistedJob))
-    (Call.Refused Refusal.ListLength)
+    (cond (turns_fit stint_turns) (Ok tt) (Err Refusal.TooManyTurns))
+    (Err Refusal.UnlistedJob))
+    (Err Refusal.ListLength)
 
 -- a test of every job's package address
 abbrev pub every_job : List ℕ → (ℕ → Bool) → Bool
@@ -67,10 +66,10 @@ owners_verdict m jobs =
     cond (every_job jobs (package_inside m))
     (cond (every_job jobs (package_clean m))
     (cond (every_job jobs (field_inside m))
-    (cond (all_apart m jobs) Call.Accepted (Call.Refused Refusal.SharedWord))
-    (Call.Refused Refusal.FieldPastEnd))
-    (Call.Refused Refusal.StrayBits))
-    (Call.Refused Refusal.PackagePastEnd)
+    (cond (all_apart m jobs) (Ok tt) (Err Refusal.SharedWord))
+    (Err Refusal.FieldPastEnd))
+    (Err Refusal.StrayBits))
+    (Err Refusal.PackagePastEnd)
 
 -- 1, 3 and 5, the host's, then 6 to 8, then 9 to 12
 unfoldable pub schedule_verdict : Schedule → Verdict

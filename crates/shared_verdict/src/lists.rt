@@ -1,22 +1,19 @@
 // The tests of a schedule's lists: numbers 6, 7 and 8. Of each stint js has the job and ts the turns.
+// Kept: js and ts are two lists, since the C interface lends them so, and no struct holds them with jobs, since each test here takes the
+// lists that it is about and no other.
 ghost use Rattle.std.specs.Prelude.{◌≡◌};
 ghost use Rattle.shared_schedule.specs.Refusals.{lists_fit, jobs_listed, turns_fit, lists_verdict};
 
-use base_outcome::refusal::{Refusal, Verdict};
+use base_outcome::refusal::Refusal;
 use central_record::record::all_below;
 use shared_limits::limits::{MOST_STINTS, jobs_fit};
 
 // Jobs and stints within their limits, and a job and turns for each stint.
+#[tactic(auto, unfolding(shared_schedule::specs::Refusals::lists_fit))]
 fn lists_fit(jobs: &[u64], js: &[u64], ts: &[u64]) -> bool
     ensures { result ≡ lists_fit jobs.now js.now ts.now }
 {
-    if !jobs_fit(jobs.len()) {
-        return false;
-    }
-    if MOST_STINTS < js.len() {
-        return false;
-    }
-    js.len() == ts.len()
+    jobs_fit(jobs.len()) && js.len() <= MOST_STINTS && js.len() == ts.len()
 }
 
 // Each stint is of a listed job; jobs are numbered from 0.
@@ -35,19 +32,17 @@ fn turns_fit(ts: &[u64]) -> bool
 
 // Numbers 6, 7 and 8, lowest first.
 #[tactic(auto, unfolding(shared_schedule::specs::Refusals::lists_verdict))]
-pub(crate) fn lists_verdict(jobs: &[u64], js: &[u64], ts: &[u64]) -> Verdict
+pub(crate) fn lists_verdict(jobs: &[u64], js: &[u64], ts: &[u64]) -> Result<(), Refusal>
     ensures { result ≡ lists_verdict jobs.now js.now ts.now }
 {
     if !lists_fit(jobs, js, ts) {
-        return Verdict::Refused(Refusal::ListLength);
+        return Err(Refusal::ListLength);
     }
-    let listed = jobs_listed(jobs, js);
-    let fit = turns_fit(ts);
-    if !listed {
-        return Verdict::Refused(Refusal::UnlistedJob);
+    if !jobs_listed(jobs, js) {
+        return Err(Refusal::UnlistedJob);
     }
-    if !fit {
-        return Verdict::Refused(Refusal::TooManyTurns);
+    if !turns_fit(ts) {
+        return Err(Refusal::TooManyTurns);
     }
-    Verdict::Accepted
+    Ok(())
 }

@@ -6,7 +6,7 @@ ghost use Rattle.shared_schedule.specs.Refusals.{every_job, jobs_apart, all_apar
 ghost use Rattle.shared_verdict.specs.Owners.{Inside};
 
 use base_lists::overlap::shares_word;
-use base_outcome::refusal::{Refusal, Verdict};
+use base_outcome::refusal::Refusal;
 use exchange_jump::jump::{field_inside, package_is_inside};
 use exchange_package::package::{has_stray, load};
 
@@ -14,15 +14,7 @@ use exchange_package::package::{has_stray, load};
 fn packages_inside(m: &[u64], jobs: &[u64]) -> bool
     ensures { result ≡ every_job jobs.now (package_inside m.now) }
 {
-    let words = m.len() as u64;
-    let mut i: usize = 0;
-    while i < jobs.len() {
-        if !package_is_inside(words, jobs[i]) {
-            return false;
-        }
-        i = i + 1;
-    }
-    true
+    jobs.iter().all(|at| package_is_inside(m.len() as u64, *at))
 }
 
 // Number 10 refuses no job.
@@ -30,14 +22,7 @@ fn packages_clean(m: &[u64], jobs: &[u64]) -> bool
     requires { every_job jobs.now (package_inside m.now) ≡ true }
     ensures { result ≡ every_job jobs.now (package_clean m.now) }
 {
-    let mut i: usize = 0;
-    while i < jobs.len() {
-        if has_stray(m, jobs[i] as usize) {
-            return false;
-        }
-        i = i + 1;
-    }
-    true
+    jobs.iter().all(|at| !has_stray(m, *at as usize))
 }
 
 // Number 11 refuses no job.
@@ -45,89 +30,67 @@ fn fields_inside(m: &[u64], jobs: &[u64]) -> bool
     requires { every_job jobs.now (package_inside m.now) ≡ true }
     ensures { result ≡ every_job jobs.now (field_inside m.now) }
 {
-    let mut i: usize = 0;
-    while i < jobs.len() {
-        if !field_inside(m, jobs[i] as usize) {
-            return false;
-        }
-        i = i + 1;
-    }
-    true
+    jobs.iter().all(|at| field_inside(m, *at as usize))
 }
 
-// The package of job i and the field of job j share no word; of two different jobs the packages share none either, nor the fields.
-pub fn jobs_apart(m: &[u64], jobs: &[u64], i: usize, j: usize) -> bool
-    requires inside { Inside m.now jobs.now }
-    requires i_in_bounds { (i < length jobs.now) × (j < length jobs.now) }
-    ensures { result ≡ jobs_apart m.now jobs.now i j }
-{
-    let a = jobs[i];
-    let b = jobs[j];
-    let first = load(m, a as usize);
-    let second = load(m, b as usize);
-    let crossed = shares_word(a, 16, second.ra, second.fl);
-    if i == j {
-        return !crossed;
-    }
-    if shares_word(a, 16, b, 16) {
-        return false;
-    }
-    if shares_word(first.ra, first.fl, second.ra, second.fl) {
-        return false;
-    }
-    !crossed
+// The memory and the addresses of all jobs' packages, where every package and every field is inside the memory.
+#[derive(Clone, Copy)]
+pub struct Packages<'a> {
+    pub memory: &'a [u64],
+    pub jobs: &'a [u64],
+    ghost inside: { Inside memory.now jobs.now },
 }
 
-// Job i against every job, itself included.
-pub fn apart_from_all(m: &[u64], jobs: &[u64], i: usize) -> bool
-    requires inside { Inside m.now jobs.now }
-    requires i_in_bounds { i < length jobs.now }
-    ensures { result ≡ all_below (length jobs.now) (jobs_apart m.now jobs.now i) }
-{
-    let mut j: usize = 0;
-    while j < jobs.len() {
-        if !jobs_apart(m, jobs, i, j) {
-            return false;
-        }
-        j = j + 1;
+impl<'a> Packages<'a> {
+    // The package of job i and the field of job j share no word; of two different jobs the packages share none either, nor the fields.
+    #[tactic(auto, unfolding(shared_schedule::specs::Refusals::jobs_apart))]
+    pub fn jobs_apart(&self, i: usize, j: usize) -> bool
+        requires { (i < length self.now.jobs.now) × (j < length self.now.jobs.now) }
+        ensures { result ≡ jobs_apart self.now.memory.now self.now.jobs.now i j }
+    {
+        let a = self.jobs[i];
+        let b = self.jobs[j];
+        let first = load(self.memory, a as usize);
+        let second = load(self.memory, b as usize);
+        !shares_word(a, 16, second.ra, second.fl)
+            && (i == j
+                || !shares_word(a, 16, b, 16)
+                    && !shares_word(first.ra, first.fl, second.ra, second.fl))
     }
-    true
-}
 
-// Number 12 does not refuse the jobs.
-fn all_apart(m: &[u64], jobs: &[u64]) -> bool
-    requires { Inside m.now jobs.now }
-    ensures { result ≡ all_apart m.now jobs.now }
-{
-    let mut i: usize = 0;
-    while i < jobs.len() {
-        if !apart_from_all(m, jobs, i) {
-            return false;
-        }
-        i = i + 1;
+    // Job i against every job, itself included.
+    pub fn apart_from_all(&self, i: usize) -> bool
+        requires { i < length self.now.jobs.now }
+        ensures { result ≡ all_below (length self.now.jobs.now) (jobs_apart self.now.memory.now self.now.jobs.now i) }
+    {
+        (0..self.jobs.len()).all(|j| self.jobs_apart(i, j))
     }
-    true
+
+    // Number 12 does not refuse the jobs.
+    fn all_apart(&self) -> bool
+        ensures { result ≡ all_apart self.now.memory.now self.now.jobs.now }
+    {
+        (0..self.jobs.len()).all(|i| self.apart_from_all(i))
+    }
 }
 
 // Numbers 9 to 12, lowest first.
 #[tactic(auto, unfolding(shared_schedule::specs::Refusals::owners_verdict))]
-pub(crate) fn owners_verdict(m: &[u64], jobs: &[u64]) -> Verdict
+pub(crate) fn owners_verdict(m: &[u64], jobs: &[u64]) -> Result<(), Refusal>
     requires { length m.now ≤ 131072 }
     ensures { result ≡ owners_verdict m.now jobs.now }
 {
     if !packages_inside(m, jobs) {
-        return Verdict::Refused(Refusal::PackagePastEnd);
+        return Err(Refusal::PackagePastEnd);
     }
-    let clean = packages_clean(m, jobs);
-    let inside = fields_inside(m, jobs);
-    if !clean {
-        return Verdict::Refused(Refusal::StrayBits);
+    if !packages_clean(m, jobs) {
+        return Err(Refusal::StrayBits);
     }
-    if !inside {
-        return Verdict::Refused(Refusal::FieldPastEnd);
+    if !fields_inside(m, jobs) {
+        return Err(Refusal::FieldPastEnd);
     }
-    if !all_apart(m, jobs) {
-        return Verdict::Refused(Refusal::SharedWord);
+    if !(Packages { memory: m, jobs }).all_apart() {
+        return Err(Refusal::SharedWord);
     }
-    Verdict::Accepted
+    Ok(())
 }

@@ -1,14 +1,14 @@
 -- The call that makes many turns of the central record as it stands, without an exchange jump.
-use Rattle.std.specs.Prelude.{cond, List, ℕ, zero, suc, ◌+◌, eqb, ltb}
+use Rattle.std.specs.Prelude.{cond, List, ℕ, zero, suc, ◌+◌, eqb, ltb, Result, Ok, Err}
 use Rattle.base_outcome.specs.Numbers.{verdict_number}
-use Rattle.base_outcome.specs.declared.refusal.Refusal.TheVariants as Refusal
-use Rattle.base_outcome.specs.declared.refusal.Verdict.TheVariants as Call
-use Rattle.base_outcome.specs.declared.refusal.Verdict.{Verdict}
+use Rattle.base_outcome.specs.declared.refusal.Refusal.TheVariants as Because
+use Rattle.base_outcome.specs.Verdict.{Verdict}
 use Rattle.central_record.specs.Record.{host_verdict}
 use Rattle.central_record.specs.declared.record.Central.{Central}
 use Rattle.base_outcome.specs.Order.{or_else}
 use Rattle.single_calls.specs.RecordCalls.{CentralMachine, central_machine, turned_once}
-use Rattle.single_calls.specs.declared.turns.TurnsAnswer.{TurnsAnswer}
+use Rattle.base_outcome.specs.declared.refusal.Refusal.{Refusal}
+use Rattle.single_stint.specs.declared.field.Ran.{Ran}
 
 -- memory and record after several turns, and how many were made
 pub record Turned : Type 0 where
@@ -35,7 +35,18 @@ most_turns = 65535
 
 -- 1, 3, 5, then 8
 unfoldable pub turns_verdict : List ℕ → Central → ℕ → Verdict
-turns_verdict m c n = or_else (host_verdict m c) (cond (ltb most_turns n) (Call.Refused Refusal.TooManyTurns) Call.Accepted)
+turns_verdict m c n = or_else (host_verdict m c) (cond (ltb most_turns n) (Err Because.TooManyTurns) (Ok tt))
+
+-- the verdict, the record and the turns made
+pub record TurnsAnswer : Type 0 where
+  pub verdict : Verdict
+  pub central : Central
+  pub turns : ℕ
+
+-- of the record given and a call's result: a refusal gives the record back, and makes no turn
+abbrev pub turns_answer_of : Central → Result Ran Refusal → TurnsAnswer
+turns_answer_of given (Ok o) = record { verdict = (Ok tt); central = o.central; turns = o.turns }
+turns_answer_of given (Err r) = record { verdict = Err r; central = given; turns = 0 }
 
 -- what the host gets back: the memory, the verdict's number, and the verdict with the record and the turns made
 pub record TurnsAnswered : Type 0 where
@@ -52,8 +63,8 @@ turns_answered v o =
 
 -- "After a refusal the state comes back equal, counts are 0."
 abbrev pub turns_answer_by : Verdict → CentralMachine → Turned → TurnsAnswered
-turns_answer_by Call.Accepted given after = turns_answered Call.Accepted after
-turns_answer_by (Call.Refused r) given after = turns_answered (Call.Refused r) (turned_to given 0)
+turns_answer_by (Ok _) given after = turns_answered (Ok tt) after
+turns_answer_by (Err r) given after = turns_answered (Err r) (turned_to given 0)
 
 -- up to n turns of the central processor
 unfoldable pub turns_answer : List ℕ → Central → ℕ → TurnsAnswered

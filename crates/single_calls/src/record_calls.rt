@@ -1,63 +1,34 @@
 // The calls on the central record itself: one turn, one exchange jump.
 ghost use Rattle.std.specs.Prelude.{◌≡◌};
-ghost use Rattle.single_calls.specs.RecordCalls.{exchange_verdict, central_answer_to, turn_answer, exchange_answer};
+ghost use Rattle.single_calls.specs.RecordCalls.{exchange_verdict, answer_of, central_answer_to, turn_answer, exchange_answer};
 
 use super::turns::turns_if_running;
-use base_outcome::refusal::Verdict;
+use base_outcome::refusal::Refusal;
 use central_record::record::{Central, host_verdict};
 use exchange_jump::jump::{exchange_jump, package_verdict};
 
-// The verdict and the record.
-#[derive(Clone, Copy)]
-pub struct Answer {
-    pub verdict: Verdict,
-    pub central: Central,
-}
-
 // One turn of the central processor.
-pub fn central_turn(memory: &mut [u64], central: Central) -> Answer
-    ensures { central_answer_to memory.new result ≡ turn_answer memory.old central }
+#[tactic(auto, unfolding(crate::specs::RecordCalls::turn_answer))]
+pub fn central_turn(memory: &mut [u64], central: Central) -> Result<Central, Refusal>
+    ensures { central_answer_to memory.new (answer_of central result) ≡ turn_answer memory.old central }
 {
-    match host_verdict(&*memory, central) {
-        Verdict::Accepted => {
-            let o = turns_if_running(&mut *memory, central, 1);
-            let after = o.central;
-            Answer {
-                verdict: Verdict::Accepted,
-                central: after,
-            }
-        }
-        Verdict::Refused(r) => Answer {
-            verdict: Verdict::Refused(r),
-            central,
-        },
-    }
+    host_verdict(memory, central)?;
+    Ok(turns_if_running(memory, central, 1).central)
 }
 
-fn exchange_verdict(m: &[u64], c: Central, at: u64) -> Verdict
+#[tactic(auto, unfolding(crate::specs::RecordCalls::exchange_verdict))]
+fn exchange_verdict(m: &[u64], c: Central, at: u64) -> Result<(), Refusal>
     ensures { result ≡ exchange_verdict m.now c at }
 {
-    match host_verdict(m, c) {
-        Verdict::Accepted => package_verdict(m, at),
-        Verdict::Refused(r) => Verdict::Refused(r),
-    }
+    host_verdict(m, c)?;
+    package_verdict(m, at)
 }
 
 // An exchange jump at the package with this address.
-pub fn exchange(memory: &mut [u64], central: Central, address: u64) -> Answer
-    ensures { central_answer_to memory.new result ≡ exchange_answer memory.old central address }
+#[tactic(auto, unfolding(crate::specs::RecordCalls::exchange_answer))]
+pub fn exchange(memory: &mut [u64], central: Central, address: u64) -> Result<Central, Refusal>
+    ensures { central_answer_to memory.new (answer_of central result) ≡ exchange_answer memory.old central address }
 {
-    match exchange_verdict(&*memory, central, address) {
-        Verdict::Accepted => {
-            let after = exchange_jump(&mut *memory, central, address as usize);
-            Answer {
-                verdict: Verdict::Accepted,
-                central: after,
-            }
-        }
-        Verdict::Refused(r) => Answer {
-            verdict: Verdict::Refused(r),
-            central,
-        },
-    }
+    exchange_verdict(memory, central, address)?;
+    Ok(exchange_jump(memory, central, address as usize))
 }

@@ -1,7 +1,7 @@
 -- Turns of a central record on its field.
 use Rattle.std.specs.Prelude.{List, ℕ}
 use Rattle.central_apply.specs.State.{state}
-use Rattle.central_turn.specs.Turn.{Run, turns_of}
+use Rattle.central_turn.specs.Turn.{stop_number, Run, turns_of}
 use Rattle.central_field.specs.declared.address.Bounds.{Bounds}
 use Rattle.base_lists.specs.Parts.{part, splice}
 use Rattle.central_record.specs.declared.record.Central.{Central}
@@ -20,7 +20,7 @@ ran_to m o = record { memory = m; end = o }
 
 abbrev pub record_after : Central → Run → Central
 record_after c o =
-    record { p = o.end.p; ra = c.ra; fl = c.fl; em = c.em; registers = o.state.registers; stop = o.end.stop }
+    record { p = o.end.p; ra = c.ra; fl = c.fl; em = c.em; registers = o.state.registers; stop = stop_number o.end.stop }
 
 abbrev pub after_run : List ℕ → Central → Run → RanMemory
 after_run m c o =

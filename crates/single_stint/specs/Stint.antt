@@ -4,15 +4,25 @@ use Rattle.exchange_jump.specs.Jump.{record_at, exchanged}
 use Rattle.exchange_jump.specs.Accepted.{HostAccepted, PackageAccepted}
 use Rattle.central_record.specs.declared.record.Central.{Central}
 use Rattle.base_lists.specs.Overlap.{shares_word}
+use Rattle.central_turn.specs.Turn.{stop_number}
 use Rattle.single_stint.specs.Field.{RanMemory, ran_on}
 use Rattle.single_stint.specs.declared.stint.StintEnd.{StintEnd}
 
+-- the record, the turns made, and the stop's number, or 0
+pub record StintLeft : Type 0 where
+  pub central : Central
+  pub turns : ℕ
+  pub stop : ℕ
+
 pub record StintMemory : Type 0 where
   pub memory : List ℕ
-  pub end : StintEnd
+  pub end : StintLeft
+
+abbrev pub stint_left : StintEnd → StintLeft
+stint_left o = record { central = o.central; turns = o.turns; stop = stop_number o.stop }
 
 abbrev pub stint_to : List ℕ → StintEnd → StintMemory
-stint_to m o = record { memory = m; end = o }
+stint_to m o = record { memory = m; end = stint_left o }
 
 -- the record with another stop
 abbrev pub with_stop : Central → ℕ → Central
@@ -21,12 +31,15 @@ with_stop c stop = record { p = c.p; ra = c.ra; fl = c.fl; em = c.em; registers 
 -- after the exchange in and the turns, the exchange out; the record's stop is put back
 abbrev pub exchanged_out : Central → ℕ → RanMemory → StintMemory
 exchanged_out c at o =
-    stint_to (exchanged o.memory o.end.central at).memory
-    (record {
-      central = with_stop (exchanged o.memory o.end.central at).central c.stop;
-      turns = o.end.turns;
-      stop = o.end.central.stop;
-    })
+    record {
+      memory = (exchanged o.memory o.end.central at).memory;
+      end =
+          record {
+            central = with_stop (exchanged o.memory o.end.central at).central c.stop;
+            turns = o.end.turns;
+            stop = o.end.central.stop;
+          };
+    }
 
 -- "A stint exchanges in at its job's package, makes up to its turns, ends early at a stop, exchanges out."
 unfoldable pub stint_of : List ℕ → Central → ℕ → ℕ → StintMemory

@@ -116,8 +116,10 @@ module _ (k : ℕ) (h : Machine) where
   one-round j e = rw e
 
 module _ (k n : ℕ) (h₀ h : Machine) (i : ℕ) (g : RoundsGoing k n h₀ h i) where
-  pub rounds-going-end : n ≤ i → rounds_ran h i ≡ rounds_of n k h₀
-  rounds-going-end l = none_left k h g.left i (omega (arith, g.total)) ∙ g.is
+  pub rounds-going-end : n ≤ i → rounds_ran h n ≡ rounds_of n k h₀
+  rounds-going-end l =
+      let e : n ≡ i = omega (arith, g.total) in
+      ap (rounds_ran h) e ∙ none_left k h g.left i (omega (arith, g.total)) ∙ g.is
 
   pub rounds-going-stop : all_stopped k h.numbers ≡ true → rounds_ran h i ≡ rounds_of n k h₀
   rounds-going-stop e = sym (ap (rounds_before i) (stops-before k h g.left e) ∙ before-none h i) ∙ g.is

@@ -1,8 +1,7 @@
 -- What the host may lend for a peripheral turn or a run, by document 01, "Memory and records" and "Who can be turned down".
-use Rattle.std.specs.Prelude.{Bool, true, ◌&&◌, cond, List, ℕ, ◌/◌, ◌%◌, ◌^◌, ltb, leb, eqb, length, get_or}
+use Rattle.std.specs.Prelude.{Bool, true, ◌&&◌, cond, List, ℕ, ◌/◌, ◌%◌, ◌^◌, ltb, leb, eqb, length, get_or, Ok, Err}
 use Rattle.base_outcome.specs.declared.refusal.Refusal.TheVariants as Refusal
-use Rattle.base_outcome.specs.declared.refusal.Verdict.{Verdict}
-use Rattle.base_outcome.specs.declared.refusal.Verdict.TheVariants as Call
+use Rattle.base_outcome.specs.Verdict.{Verdict}
 use Rattle.base_lists.specs.Indexed.{all_below}
 use Rattle.central_record.specs.Record.{length_fits, words_fit}
 use Rattle.base_outcome.specs.Order.{or_else}
@@ -32,11 +31,11 @@ machine_verdict there c m r =
     (cond (peripheral_length_fits (length m) && there)
     (cond (words_fit c)
     (cond (short_words_fit m)
-    (cond (machine_fits (length c) r) Call.Accepted (Call.Refused Refusal.RecordValue))
-    (Call.Refused Refusal.PeripheralWord))
-    (Call.Refused Refusal.CentralWord))
-    (Call.Refused Refusal.PeripheralLength))
-    (Call.Refused Refusal.CentralLength)
+    (cond (machine_fits (length c) r) (Ok tt) (Err Refusal.RecordValue))
+    (Err Refusal.PeripheralWord))
+    (Err Refusal.CentralWord))
+    (Err Refusal.PeripheralLength))
+    (Err Refusal.CentralLength)
 
 -- a turn of peripheral processor n
 abbrev pub turn_verdict : List ℕ → List ℕ → MachineRecord → ℕ → Verdict
@@ -44,7 +43,7 @@ turn_verdict c m r n = machine_verdict (ltb n (processors_in m)) c m r
 
 -- "8 … a run over 65,535 rounds"
 abbrev pub rounds_verdict : ℕ → Verdict
-rounds_verdict n = cond (ltb 65535 n) (Call.Refused Refusal.TooManyTurns) Call.Accepted
+rounds_verdict n = cond (ltb 65535 n) (Err Refusal.TooManyTurns) (Ok tt)
 
 -- a run of n rounds: 1 to 5, then 8
 unfoldable pub run_verdict : List ℕ → List ℕ → MachineRecord → ℕ → Verdict

@@ -2,9 +2,11 @@
 ghost use Rattle.std.specs.Prelude.{◌≡◌, ◌<◌, ◌^◌};
 ghost use Rattle.word_arithmetic.specs.Logic.{logical, logical_product, logical_difference, selective_clear};
 
-use super::sums::{complement18, complement60};
+use super::sums::complement;
 
 // Code 1m of Xj and Xk.
+// Kept: the operation is the octal digit m, by which the manual names it and as which the listing has it; a name for each is no plainer.
+#[tactic(auto, unfolding(crate::specs::Logic::logical))]
 pub fn logical(m: u64, xj: u64, xk: u64) -> u64
     requires { (m < 8) × (xk < 2 ^ 60) }
     ensures { result ≡ logical m xj xk }
@@ -14,10 +16,10 @@ pub fn logical(m: u64, xj: u64, xk: u64) -> u64
         1 => xj & xk,
         2 => xj | xk,
         3 => xj ^ xk,
-        4 => complement60(xk),
-        5 => xj & complement60(xk),
-        6 => xj | complement60(xk),
-        _ => xj ^ complement60(xk),
+        4 => complement::<60>(xk),
+        5 => xj & complement::<60>(xk),
+        6 => xj | complement::<60>(xk),
+        _ => xj ^ complement::<60>(xk),
     }
 }
 
@@ -40,5 +42,5 @@ pub fn selective_clear(a: u64, b: u64) -> u64
     requires { b < 2 ^ 18 }
     ensures { result ≡ selective_clear a b }
 {
-    a & complement18(b)
+    a & complement::<18>(b)
 }

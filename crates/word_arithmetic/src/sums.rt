@@ -1,115 +1,78 @@
-// One's-complement arithmetic of 18 and of 60 bits.
-ghost use Rattle.std.specs.Prelude.{◌≡◌, ◌<◌, ◌^◌};
+// One's-complement arithmetic of N bits: 12, 18 or 60 in this machine.
+ghost use Rattle.std.specs.Prelude.{◌≡◌, ◌-◌, ◌^◌, ◌<◌};
 ghost use Rattle.word_arithmetic.specs.Bits.{low, negative};
 ghost use Rattle.word_arithmetic.specs.Sums.{complement, magnitude, sum, difference, sign_extend};
 
-pub const ONES18: u64 = 0o777777;
-
-pub const ONES60: u64 = 0o77777777777777777777;
-
-pub fn complement18(a: u64) -> u64
-    requires { a < 2 ^ 18 }
-    ensures { result ≡ complement 18 a }
+// N bits that are all set.
+pub fn ones<const N: u32>() -> u64
+    requires { N < 64 }
+    ensures { result ≡ 2 ^ N - 1 }
 {
-    !a & ONES18
+    (1 << N) - 1
 }
 
-pub fn complement60(a: u64) -> u64
-    requires { a < 2 ^ 60 }
-    ensures { result ≡ complement 60 a }
+pub fn complement<const N: u32>(a: u64) -> u64
+    requires { (N < 64) × (a < 2 ^ N) }
+    ensures { result ≡ complement N a }
 {
-    !a & ONES60
+    ones::<N>() - a
 }
 
-pub fn is_negative18(a: u64) -> bool
-    ensures { result ≡ negative 18 a }
+pub fn is_negative<const N: u32>(a: u64) -> bool
+    requires { (0 < N) × (N < 64) }
+    ensures { result ≡ negative N a }
 {
-    0o400000 <= a
+    1 << (N - 1) <= a
 }
 
-pub fn is_negative60(a: u64) -> bool
-    ensures { result ≡ negative 60 a }
+#[tactic(auto, unfolding(crate::specs::Sums::magnitude))]
+pub fn magnitude<const N: u32>(a: u64) -> u64
+    requires { (0 < N) × (N < 64) × (a < 2 ^ N) }
+    ensures { result ≡ magnitude N a }
 {
-    0o40000000000000000000 <= a
-}
-
-pub fn magnitude18(a: u64) -> u64
-    requires { a < 2 ^ 18 }
-    ensures { result ≡ magnitude 18 a }
-{
-    if a < 0o400000 { a } else { complement18(a) }
-}
-
-pub fn magnitude60(a: u64) -> u64
-    requires { a < 2 ^ 60 }
-    ensures { result ≡ magnitude 60 a }
-{
-    if a < 0o40000000000000000000 {
-        a
+    if is_negative::<N>(a) {
+        complement::<N>(a)
     } else {
-        complement60(a)
+        a
     }
 }
 
 // A plain sum of all ones or more loses all ones, so that 3 - 3 is plus zero.
-pub fn sum18(a: u64, b: u64) -> u64
-    requires { (a < 2 ^ 18) × (b < 2 ^ 18) }
-    ensures { result ≡ sum 18 a b }
+pub fn sum<const N: u32>(a: u64, b: u64) -> u64
+    requires { (N < 64) × (a < 2 ^ N) × (b < 2 ^ N) }
+    ensures { result ≡ sum N a b }
 {
     let plain = a + b;
-    if plain < ONES18 {
+    if plain < ones::<N>() {
         plain
     } else {
-        plain - ONES18
+        plain - ones::<N>()
     }
 }
 
-pub fn sum60(a: u64, b: u64) -> u64
-    requires { (a < 2 ^ 60) × (b < 2 ^ 60) }
-    ensures { result ≡ sum 60 a b }
+pub fn difference<const N: u32>(a: u64, b: u64) -> u64
+    requires { (N < 64) × (a < 2 ^ N) × (b < 2 ^ N) }
+    ensures { result ≡ difference N a b }
 {
-    let plain = a + b;
-    if plain < ONES60 {
-        plain
-    } else {
-        plain - ONES60
-    }
-}
-
-pub fn difference18(a: u64, b: u64) -> u64
-    requires { (a < 2 ^ 18) × (b < 2 ^ 18) }
-    ensures { result ≡ difference 18 a b }
-{
-    sum18(a, complement18(b))
-}
-
-pub fn difference60(a: u64, b: u64) -> u64
-    requires { (a < 2 ^ 60) × (b < 2 ^ 60) }
-    ensures { result ≡ difference 60 a b }
-{
-    sum60(a, complement60(b))
+    sum::<N>(a, complement::<N>(b))
 }
 
 // An 18-bit value as a 60-bit word.
+#[tactic(auto, unfolding(crate::specs::Sums::sign_extend))]
 pub fn sign_extend18(a: u64) -> u64
     requires { a < 2 ^ 18 }
     ensures { result ≡ sign_extend 18 60 a }
 {
-    if a < 0o400000 {
-        a
+    if is_negative::<18>(a) {
+        a + (ones::<60>() - ones::<18>())
     } else {
-        a | 0o77777777777777000000
+        a
     }
 }
 
-pub fn low18(w: u64) -> u64
-    ensures { result ≡ low 18 w }
+pub fn low<const N: u32>(w: u64) -> u64
+    requires { N < 64 }
+    ensures { result ≡ low N w }
 {
-    w & ONES18
-}
-
-pub fn low12(w: u64) -> u64
-    ensures { result ≡ low 12 w }
-{
-    w & 0o7777
+    w & ones::<N>()
 }

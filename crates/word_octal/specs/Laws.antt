@@ -3,3 +3,4 @@ pub mod Read
 pub mod Text
 pub mod Write
 pub mod Again
+pub mod Writes

@@ -2,4 +2,5 @@
 pub mod Read
 pub mod Text
 pub mod Write
+pub mod Writes
 pub mod Laws

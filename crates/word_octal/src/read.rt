@@ -1,18 +1,14 @@
-// Reads numbers in octal digits, one byte at a time.
+// Reads numbers in octal digits, one byte at a time. The digits of a number that were read so far are their value, if there are any.
 ghost use Rattle.std.specs.Prelude.{◌≡◌, ◌<◌};
-ghost use Rattle.word_octal.specs.Read.{no_digits, after_digit, after_end, feed_of};
+ghost use Rattle.word_octal.specs.Read.{after_digit, after_end, feed_of};
 
-// The digits of one number that were read so far: their value, and whether there are any.
-#[derive(Clone, Copy)]
-pub struct Digits {
-    pub value: u64,
-    pub begun: bool,
-}
+use super::digit::octal_digit;
 
 // What a byte after these digits makes of them.
-#[derive(Clone, Copy)]
+// Kept: `Nothing` and `Unreadable` are two cases and no `None`, since `feed_of` of specs/Read.antt tells them apart.
+#[derive(Clone, Copy, Debug, PartialEq, Eq)]
 pub enum Fed {
-    More(Digits),
+    More(Option<u64>),
     // A space or a line feed ended the number.
     Number(u64),
     // A space or a line feed where no number had begun.
@@ -21,53 +17,38 @@ pub enum Fed {
     Unreadable,
 }
 
-// No digit was read yet.
-pub fn start() -> Digits
-    ensures { result ≡ no_digits }
+#[tactic(auto, unfolding(crate::specs::Read::after_end))]
+fn end(digits: Option<u64>) -> Fed
+    ensures { result ≡ after_end digits }
 {
-    Digits {
-        value: 0,
-        begun: false,
+    match digits {
+        Some(value) => Fed::Number(value),
+        None => Fed::Nothing,
     }
-}
-
-fn end(d: Digits) -> Fed
-    ensures { result ≡ after_end d }
-{
-    if d.begun {
-        return Fed::Number(d.value);
-    }
-    Fed::Nothing
 }
 
 // Below 2^61 the value has room for one more digit, whichever it is.
-fn digit(d: Digits, n: u64) -> Fed
+#[tactic(auto, using(crate::specs::Laws::Read::digits_room, crate::specs::Laws::Read::no_room))]
+fn digit(digits: Option<u64>, n: u64) -> Fed
     requires { n < 8 }
-    ensures { result ≡ after_digit d n }
+    ensures { result ≡ after_digit digits n }
 {
-    if d.value < 0o200000000000000000000 {
-        return Fed::More(Digits {
-            value: d.value * 8 + n,
-            begun: true,
-        });
+    let value = digits.unwrap_or(0);
+    if value < 0o200000000000000000000 {
+        return Fed::More(Some(value * 8 + n));
     }
     Fed::Unreadable
 }
 
-pub fn feed(d: Digits, byte: u8) -> Fed
-    ensures { result ≡ feed_of d byte }
+#[tactic(auto, unfolding(crate::specs::Read::feed_of))]
+pub fn feed(digits: Option<u64>, byte: u8) -> Fed
+    ensures { result ≡ feed_of digits byte }
 {
-    if byte == b' ' {
-        return end(d);
+    if byte == b' ' || byte == b'\n' {
+        return end(digits);
     }
-    if byte == b'\n' {
-        return end(d);
-    }
-    if byte < b'0' {
+    let Some(n) = octal_digit(byte) else {
         return Fed::Unreadable;
-    }
-    if b'7' < byte {
-        return Fed::Unreadable;
-    }
-    digit(d, (byte - b'0') as u64)
+    };
+    digit(digits, n)
 }

@@ -2,30 +2,16 @@
 ghost use Rattle.std.specs.Prelude.{◌≡◌, ◌≤◌, length};
 ghost use Rattle.word_octal.specs.Text.{value_of};
 
-#[derive(Clone, Copy)]
-pub enum Value {
-    Of(u64),
-    // A byte that is no octal digit.
-    NotOctal,
-}
+use super::digit::octal_digit;
 
-// The value of 20 digits is below 2^60.
-pub fn value_of(text: &[u8]) -> Value
+// The number, if each byte is an octal digit. The value of 20 digits is below 2^60.
+pub fn value_of(text: &[u8]) -> Option<u64>
     requires { length text.now ≤ 20 }
     ensures { result ≡ value_of text.now }
 {
-    let mut v: u64 = 0;
-    let mut i: usize = 0;
-    while i < text.len() {
-        let byte = text[i];
-        if byte < b'0' {
-            return Value::NotOctal;
-        }
-        if b'7' < byte {
-            return Value::NotOctal;
-        }
-        v = v * 8 + ((byte - b'0') as u64);
-        i = i + 1;
+    let mut value = 0;
+    for byte in text {
+        value = value * 8 + octal_digit(*byte)?;
     }
-    Value::Of(v)
+    Some(value)
 }

@@ -20,10 +20,9 @@ rotated-at j m s w h =
     let high = and_mask (w * 2 ^ s % 2 ^ (j + (m + s))) (m + s) ∙ mod-mod-pow (w * 2 ^ s) j (m + s) ∙ rotated-high m s w in
     ap (λ (x : ℕ). bit_or x (w / 2 ^ m)) high ∙ or_shifted (w % 2 ^ m) s (w / 2 ^ m) (high_lt m s w h)
 
--- a rotation of n bits by k % n places, in a machine word of j + n
-pub rotated : (j n w k : ℕ) → 0 < n → w < 2 ^ n
+rotated-in : (j n w k : ℕ) → 0 < n → w < 2 ^ n
     → bit_or (bit_and (w * 2 ^ (k % n) % 2 ^ (j + n)) (2 ^ n - 1)) (w / 2 ^ (n - k % n)) ≡ rotate_left n w k
-rotated j n w k p h =
+rotated-in j n w k p h =
     let s : ℕ = k % n in
     subst
     (λ (x : ℕ). w < 2 ^ x → bit_or (bit_and (w * 2 ^ s % 2 ^ (j + x)) (2 ^ x - 1)) (w / 2 ^ (n - s)) ≡ w % 2 ^ (n - s) * 2 ^ s + w / 2 ^ (n - s))
@@ -31,6 +30,13 @@ rotated j n w k p h =
     (rotated-at j (n - s) s w)
     h
     ∙ sym (rotate-swaps n w k p)
+
+-- a rotation of n bits by k % n places, in a machine word of v
+pub rotated : (v n w k : ℕ) → 0 < n → n ≤ v → w < 2 ^ n
+    → bit_or (bit_and (w * 2 ^ (k % n) % 2 ^ v) (2 ^ n - 1)) (w / 2 ^ (n - k % n)) ≡ rotate_left n w k
+rotated v n w k p l h =
+    subst (λ (x : ℕ). bit_or (bit_and (w * 2 ^ (k % n) % 2 ^ x) (2 ^ n - 1)) (w / 2 ^ (n - k % n)) ≡ rotate_left n w k) (sub-add_cancel l)
+    (rotated-in (v - n) n w k p h)
 
 -- the mask is the complement of the ones shifted right
 pub mask_is : (n k : ℕ) → complement n ((2 ^ n - 1) / 2 ^ k) ≡ mask n k

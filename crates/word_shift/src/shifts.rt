@@ -1,30 +1,21 @@
-// Shifts, masks and counts of bits: 20, 21, 43, 47 and the peripheral SHN.
-ghost use Rattle.std.specs.Prelude.{◌≡◌, ◌<◌, ◌^◌};
+// Shifts, masks and counts of the bits of values of N bits: 20, 21, 43, 47 and the peripheral SHN.
+ghost use Rattle.std.specs.Prelude.{◌≡◌, ◌≤◌, ◌<◌, ◌^◌};
 ghost use Rattle.word_shift.specs.Shifts.{rotate_left, mask, shift_right, shift_right_signed, shift_a, count_ones};
 
-use word_arithmetic::sums::{ONES18, ONES60, complement60};
+use word_arithmetic::sums::{complement, is_negative, ones};
 
 // 20, for any count.
-pub fn rotate_left60(w: u64, k: u64) -> u64
-    requires { w < 2 ^ 60 }
-    ensures { result ≡ rotate_left 60 w k }
+pub fn rotate_left<const N: u32>(w: u64, k: u64) -> u64
+    requires { (0 < N) × (N < 64) × (w < 2 ^ N) }
+    ensures { result ≡ rotate_left N w k }
 {
-    let up = k % 60;
-    let down = 60 - up;
-    ((w << up) & ONES60) | (w >> down)
-}
-
-pub fn rotate_left18(w: u64, k: u64) -> u64
-    requires { w < 2 ^ 18 }
-    ensures { result ≡ rotate_left 18 w k }
-{
-    let up = k % 18;
-    let down = 18 - up;
-    ((w << up) & ONES18) | (w >> down)
+    let up = k % u64::from(N);
+    let down = u64::from(N) - up;
+    ((w << up) & ones::<N>()) | (w >> down)
 }
 
 // End off, with zeros from the top.
-pub fn shift_right18(w: u64, k: u64) -> u64
+pub fn shift_right(w: u64, k: u64) -> u64
     requires { k < 64 }
     ensures { result ≡ shift_right w k }
 {
@@ -32,47 +23,43 @@ pub fn shift_right18(w: u64, k: u64) -> u64
 }
 
 // 43: the ones that a shift right by k frees.
-pub fn mask60(k: u64) -> u64
-    requires { k < 64 }
-    ensures { result ≡ mask 60 k }
+pub fn mask<const N: u32>(k: u64) -> u64
+    requires { (N < 64) × (k < 64) }
+    ensures { result ≡ mask N k }
 {
-    complement60(ONES60 >> k)
+    complement::<N>(ones::<N>() >> k)
 }
 
 // 21: end off, with the sign extended.
-pub fn shift_right60(w: u64, k: u64) -> u64
-    requires { (w < 2 ^ 60) × (k < 64) }
-    ensures { result ≡ shift_right_signed 60 w k }
+#[tactic(auto, unfolding(crate::specs::Shifts::shift_right_signed))]
+pub fn shift_right_signed<const N: u32>(w: u64, k: u64) -> u64
+    requires { (0 < N) × (N < 64) × (w < 2 ^ N) × (k < 64) }
+    ensures { result ≡ shift_right_signed N w k }
 {
-    if w < 0o40000000000000000000 {
-        w >> k
+    if is_negative::<N>(w) {
+        (w >> k) | mask::<N>(k)
     } else {
-        (w >> k) | mask60(k)
+        w >> k
     }
 }
 
 // SHN.
+#[tactic(auto, unfolding(crate::specs::Shifts::shift_a))]
 pub fn shift_a(d: u64, a: u64) -> u64
     requires { (d < 64) × (a < 2 ^ 18) }
     ensures { result ≡ shift_a d a }
 {
     if d < 0o40 {
-        rotate_left18(a, d)
+        rotate_left::<18>(a, d)
     } else {
-        shift_right18(a, 0o77 - d)
+        shift_right(a, 0o77 - d)
     }
 }
 
-fn wide(n: u32) -> u64
-    ensures { result ≡ n }
-{
-    n as u64
-}
-
 // 47.
-pub fn count_ones60(w: u64) -> u64
-    requires { w < 2 ^ 60 }
-    ensures { result ≡ count_ones 60 w }
+pub fn count_ones<const N: u32>(w: u64) -> u64
+    requires { (N ≤ 64) × (w < 2 ^ N) }
+    ensures { result ≡ count_ones N w }
 {
-    wide(u64::count_ones(w))
+    u64::from(w.count_ones())
 }

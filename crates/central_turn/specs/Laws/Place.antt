@@ -1,5 +1,5 @@
 -- A turn depends on P, the registers, FL, EM and the words of the field alone: it is the same wherever in memory the field begins.
-use Rattle.std.specs.Prelude.{Bool, List, ◌≡◌, ltb}
+use Rattle.std.specs.Prelude.{Bool, List, ◌≡◌, ltb, Some, None}
 use Rattle.std.proofs.Math.Bool.{true, false, cond}
 use Rattle.std.proofs.Math.Path.{refl, ap}
 use Rattle.std.proofs.Common.{◌∙◌, arith}
@@ -15,7 +15,6 @@ use Rattle.central_apply.specs.State.{State, state}
 use Rattle.central_field.specs.Address.{bounds, place_of}
 use Rattle.central_apply.specs.Apply.{After, referred, a_set, stored_at, return_jumped, applied}
 use Rattle.central_turn.specs.Turn.{ran_at, step_of, Turn, turned, turn_end, go_on, parcels_run, fetched, turn_of, after_turn, turns_of}
-use Rattle.central_field.specs.declared.address.Place.TheVariants.{Inside, Outside}
 use Rattle.central_apply.specs.declared.apply.Step.{Step}
 
 -- where the word at RA + n stands in the field
@@ -24,8 +23,8 @@ place-back ra n = omega arith
 
 module _ (ra ra' fl em : ℕ) where
   refer-anywhere : (s : State) (i v n : ℕ) (t : Bool)
-      → referred s (bounds ra fl em) i (cond t (Inside (record { 0 = ra + v })) Outside) n
-      ≡ referred s (bounds ra' fl em) i (cond t (Inside (record { 0 = ra' + v })) Outside) n
+      → referred s (bounds ra fl em) i (cond t (Some (record { 0 = ra + v })) None) n
+      ≡ referred s (bounds ra' fl em) i (cond t (Some (record { 0 = ra' + v })) None) n
   unfolding referred
   refer-anywhere s i v n true = rw (place-back ra v, place-back ra' v)
   refer-anywhere s i v n false = refl
@@ -35,8 +34,8 @@ module _ (ra ra' fl em : ℕ) where
   set-a-anywhere s i v n = rw (refer-anywhere (state (set_a s.registers i v) s.field) i v n (ltb v fl))
 
   store-anywhere : (f : List ℕ) (k w : ℕ) (t : Bool)
-      → stored_at f (bounds ra fl em) k w (cond t (Inside (record { 0 = ra + k })) Outside)
-      ≡ stored_at f (bounds ra' fl em) k w (cond t (Inside (record { 0 = ra' + k })) Outside)
+      → stored_at f (bounds ra fl em) k w (cond t (Some (record { 0 = ra + k })) None)
+      ≡ stored_at f (bounds ra' fl em) k w (cond t (Some (record { 0 = ra' + k })) None)
   store-anywhere f k w true = rw (place-back ra k, place-back ra' k)
   store-anywhere f k w false = refl
 
@@ -74,12 +73,12 @@ module _ (ra ra' fl em : ℕ) where
   unfolding parcels_run
   parcels-anywhere p w zero s place = refl
   parcels-anywhere p w (suc most) s place =
-      ap (λ (t : Turn). cond (ltb place 4) t (turned s (turn_end (p + 1) 0)))
+      ap (λ (t : Turn). cond (ltb place 4) t (turned s (turn_end (p + 1) None)))
       (go-on-anywhere p _ _ (parcels-anywhere p w most) (step_of s (bounds ra fl em) p w place) (step_of s (bounds ra' fl em) p w place) (step-anywhere s p w place))
 
   fetch-anywhere : (p : ℕ) (s : State) (t : Bool)
-      → fetched (bounds ra fl em) p s (cond t (Inside (record { 0 = ra + p })) Outside)
-      ≡ fetched (bounds ra' fl em) p s (cond t (Inside (record { 0 = ra' + p })) Outside)
+      → fetched (bounds ra fl em) p s (cond t (Some (record { 0 = ra + p })) None)
+      ≡ fetched (bounds ra' fl em) p s (cond t (Some (record { 0 = ra' + p })) None)
   fetch-anywhere p s true = rw (place-back ra p, place-back ra' p) (parcels-anywhere p _ 4 s 0)
   fetch-anywhere p s false = refl
 

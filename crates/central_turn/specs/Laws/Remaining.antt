@@ -1,5 +1,5 @@
 -- A step by the entry of its code and the bits that remain is the step at its place.
-use Rattle.std.specs.Prelude.{Bool, true, false, cond, List, ◌⊎◌, ◌≡◌, refl, eqb, ltb}
+use Rattle.std.specs.Prelude.{Bool, true, false, cond, List, ◌⊎◌, ◌≡◌, refl, eqb, ltb, Option, Some, None}
 use Rattle.std.proofs.Common.{inl, inr, subst, ◌∙◌, arith}
 use Rattle.std.proofs.Math.Path.{ap}
 use Prim.Native.Nat.{ℕ, ◌+◌, ◌-◌, ◌/◌, ◌%◌, ◌^◌, ◌≤◌, ◌<◌}
@@ -20,22 +20,21 @@ use Rattle.central_effect.specs.declared.effect.CentralEffect.{CentralEffect}
 use Rattle.central_effect.specs.declared.effect.CentralEffect.TheVariants.{Pass, Stop, Jump, ReturnJump, SetA, SetB, SetX, SetXB}
 use Rattle.central_field.specs.Address.{place_of, relative}
 use Rattle.central_field.specs.declared.address.Bounds.{Bounds}
-use Rattle.central_field.specs.declared.address.Place.{Place}
-use Rattle.central_field.specs.declared.address.Place.TheVariants.{Inside, Outside}
 use Rattle.central_apply.specs.State.{State}
 use Rattle.central_apply.specs.Apply.{After, after, stops_outside, referred, a_set, stored_at, return_jumped, applied}
 use Rattle.central_turn.specs.Turn.{stopped_by, ran_at, step_of}
 use Rattle.central_turn.specs.Remaining.{remaining_from, place_by_remaining, by_remaining, after_by_remaining}
+use Rattle.central_field.specs.declared.address.Absolute.{Absolute}
 
 -- applying an effect hands on the number that it is given
 cond-remaining : (t : Bool) (x y : After) → cond t (after_by_remaining x) (after_by_remaining y) ≡ after_by_remaining (cond t x y)
 cond-remaining true x y = refl
 cond-remaining false x y = refl
 
-refer-remaining : (s : State) (b : Bounds) (i : ℕ) (p : Place) (n : ℕ) → referred s b i p (remaining_from n) ≡ after_by_remaining (referred s b i p n)
+refer-remaining : (s : State) (b : Bounds) (i : ℕ) (p : Option Absolute) (n : ℕ) → referred s b i p (remaining_from n) ≡ after_by_remaining (referred s b i p n)
 unfolding referred
-refer-remaining s b i (Inside a) n = cond-remaining (ltb i 6) _ _
-refer-remaining s b i Outside n =
+refer-remaining s b i (Some a) n = cond-remaining (ltb i 6) _ _
+refer-remaining s b i None n =
     ap (cond (stops_outside b) _) (cond-remaining (ltb i 6) _ _) ∙ cond-remaining (stops_outside b) _ _
 
 set-a-remaining : (s : State) (b : Bounds) (i v n : ℕ) → a_set s b i v (remaining_from n) ≡ after_by_remaining (a_set s b i v n)
@@ -48,9 +47,9 @@ return-remaining : (f : List ℕ) (b : Bounds) (k w : ℕ) → (return_jumped f 
 unfolding return_jumped
 return-remaining f b k w = by_place (place_of b (relative k))
   where
-    by_place : (p : Place) → (stored_at f b k w p).step ≡ by_remaining (stored_at f b k w p).step
-    by_place (Inside a) = refl
-    by_place Outside = refl
+    by_place : (p : Option Absolute) → (stored_at f b k w p).step ≡ by_remaining (stored_at f b k w p).step
+    by_place (Some a) = refl
+    by_place None = refl
 
 apply-remaining : (s : State) (b : Bounds) (e : CentralEffect) (n : ℕ) → applied s b e (remaining_from n) ≡ after_by_remaining (applied s b e n)
 unfolding applied

@@ -1,8 +1,7 @@
 -- The loop over a word that is shifted left is the loop over its places.
-use Rattle.std.specs.Prelude.{◌≡◌, refl, ℕ, ◌+◌, ◌-◌, ◌*◌, ◌%◌, ◌^◌, ◌≤◌, ◌<◌}
+use Rattle.std.specs.Prelude.{Some, None, ◌≡◌, refl, ℕ, ◌+◌, ◌-◌, ◌*◌, ◌%◌, ◌^◌, ◌≤◌, ◌<◌}
 use Rattle.std.proofs.Common.{sym, ap, subst, ◌∙◌, arith}
 use Rattle.base_outcome.specs.declared.stop.CentralStop.{CentralStop}
-use Rattle.base_outcome.specs.Numbers.{central_stop_number}
 use Rattle.central_decode.specs.Shifted.{shifted_to, decoded_top}
 use Rattle.central_decode.specs.Laws.Shifted.{shift-on}
 use Rattle.central_field.specs.declared.address.Bounds.{Bounds}
@@ -47,7 +46,7 @@ shifted_start b p w s k = record { place = 0; total = refl; top = refl; going = 
 -- b is a field in central memory, and p an address in it
 module _ (b : Bounds) (p w : ℕ) (room : b.fl ≤ 131072) (inside : p < b.fl)
     (s₀ s : State) (v remaining : ℕ) (g : Shifted b p w s₀ s v remaining) where
-  pub shifted_end : remaining ≤ 0 → turned s (turn_end (p + 1) 0) ≡ word_run b p w s₀
+  pub shifted_end : remaining ≤ 0 → turned s (turn_end (p + 1) None) ≡ word_run b p w s₀
   shifted_end h = word-going-end b p w room inside s₀ s g.place g.going (omega (arith, g.total))
 
   module _ (h : 0 < remaining) (a : After) (e : a ≡ after_by_remaining (ran_at s b p (place_by_remaining remaining) (decoded_top v))) where
@@ -74,11 +73,11 @@ module _ (b : Bounds) (p w : ℕ) (room : b.fl ≤ 131072) (inside : p < b.fl)
         subst (λ (x : State). turned x t ≡ word_run b p w s₀) same-state
         (going-out b p w room inside s₀ s g.place g.going early _ refl o i t (ends _))
 
-    pub shifted-branch : (t : ℕ) → a.step ≡ Then.Branch t → turned a.state (turn_end t 0) ≡ word_run b p w s₀
-    shifted-branch t i = shifted-out (Then.Branch t) (turn_end t 0) (from-branch _ t (told _ i)) (λ x rest. refl)
+    pub shifted-branch : (t : ℕ) → a.step ≡ Then.Branch t → turned a.state (turn_end t None) ≡ word_run b p w s₀
+    shifted-branch t i = shifted-out (Then.Branch t) (turn_end t None) (from-branch _ t (told _ i)) (λ x rest. refl)
 
-    pub shifted-stop : (c : CentralStop) → a.step ≡ Then.Stop c → turned a.state (turn_end p (central_stop_number c)) ≡ word_run b p w s₀
-    shifted-stop c i = shifted-out (Then.Stop c) (turn_end p (central_stop_number c)) (from-stop _ c (told _ i)) (λ x rest. refl)
+    pub shifted-stop : (c : CentralStop) → a.step ≡ Then.Stop c → turned a.state (turn_end p (Some c)) ≡ word_run b p w s₀
+    shifted-stop c i = shifted-out (Then.Stop c) (turn_end p (Some c)) (from-stop _ c (told _ i)) (λ x rest. refl)
 
     pub shifted-on : (next : ℕ) → a.step ≡ Then.Next next
         → (next < remaining) × Shifted b p w s₀ a.state (v * 2 ^ (remaining - next) % 2 ^ 64) next

@@ -1,5 +1,5 @@
 -- One instruction: what it keeps, and where it goes on.
-use Rattle.std.specs.Prelude.{List, ◌≡◌, refl, ℕ, ◌+◌, ◌^◌, ◌≤◌, ◌<◌, eqb, ltb}
+use Rattle.std.specs.Prelude.{List, ◌≡◌, refl, ℕ, ◌+◌, ◌^◌, ◌≤◌, ◌<◌, eqb, ltb, Option, Some, None}
 use Rattle.std.proofs.Common.{arith, ltb-true, ltb-false}
 use Rattle.base_logic.specs.Laws.Choice.{of-cond}
 use Rattle.central_codes.specs.Codes.{is_fit, parcels_of}
@@ -19,9 +19,8 @@ use Rattle.central_turn.specs.Turn.{ran_at, step_of}
 use Rattle.central_apply.specs.Widths.{StateKept}
 use Rattle.central_apply.proofs.Widths.{KeptAfter, apply-keeps}
 use Rattle.central_field.specs.declared.address.Bounds.{Bounds}
-use Rattle.central_field.specs.declared.address.Place.{Place}
-use Rattle.central_field.specs.declared.address.Place.TheVariants.{Inside, Outside}
 use Rattle.central_apply.specs.declared.apply.Step.{Step}
+use Rattle.central_field.specs.declared.address.Absolute.{Absolute}
 
 -- a step keeps the widths
 pub step_keeps : (n : ℕ) (s : State) (b : Bounds) (p w place : ℕ) → p < 131072 → StateKept n s → KeptAfter n (step_of s b p w place)
@@ -41,10 +40,10 @@ Reached next (Then.Stop c) = Unit {0}
 abbrev ReachedAfter : ℕ → After → Type 0
 ReachedAfter next a = Reached next a.step
 
-refer-reaches : (s : State) (b : Bounds) (i : ℕ) (p : Place) (next : ℕ) → ReachedAfter next (referred s b i p next)
+refer-reaches : (s : State) (b : Bounds) (i : ℕ) (p : Option Absolute) (next : ℕ) → ReachedAfter next (referred s b i p next)
 unfolding referred
-refer-reaches s b i (Inside a) next = of-cond (ReachedAfter next) (ltb i 6) (λ e. refl) (λ e. refl)
-refer-reaches s b i Outside next =
+refer-reaches s b i (Some a) next = of-cond (ReachedAfter next) (ltb i 6) (λ e. refl) (λ e. refl)
+refer-reaches s b i None next =
     of-cond (ReachedAfter next) (stops_outside b) (λ e. tt) (λ e. of-cond (ReachedAfter next) (ltb i 6) (λ e. refl) (λ e. refl))
 
 set-a-reaches : (s : State) (b : Bounds) (i v next : ℕ) → ReachedAfter next (a_set s b i v next)
@@ -56,7 +55,7 @@ set-a-reaches s b i v next =
 return-reaches : (f : List ℕ) (b : Bounds) (k w next : ℕ) → b.fl ≤ 131072 → Reached next (return_jumped f b k w).step
 unfolding return_jumped place_of
 return-reaches f b k w next h =
-    of-cond (λ (p : Place). Reached next (stored_at f b k w p).step) (ltb k b.fl) (λ e. omega (arith, ltb-true k b.fl e)) (λ e. tt)
+    of-cond (λ (p : Option Absolute). Reached next (stored_at f b k w p).step) (ltb k b.fl) (λ e. omega (arith, ltb-true k b.fl e)) (λ e. tt)
 
 apply-reaches : (s : State) (b : Bounds) (e : CentralEffect) (next : ℕ) → CentralSound e → b.fl ≤ 131072 → ReachedAfter next (applied s b e next)
 unfolding applied

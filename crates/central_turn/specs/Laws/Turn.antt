@@ -1,5 +1,5 @@
 -- A turn as a loop over the parcels, and what it keeps.
-use Rattle.std.specs.Prelude.{true, ◌≡◌, ltb}
+use Rattle.std.specs.Prelude.{true, ◌≡◌, ltb, Option, None}
 use Rattle.std.proofs.Math.Path.{refl}
 use Rattle.std.proofs.Common.{sym, ap, subst, ◌∙◌, arith, lt-ltb, le-ltb, ltb-true}
 use Prim.Native.Nat.{ℕ, zero, suc, ◌+◌, ◌^◌, ◌≤◌, ◌<◌}
@@ -10,14 +10,14 @@ use Rattle.central_apply.specs.declared.apply.Step.TheVariants as Then
 use Rattle.central_apply.specs.State.{State}
 use Rattle.central_field.specs.Address.{place_of}
 use Rattle.central_apply.specs.Apply.{After}
-use Rattle.central_turn.specs.Turn.{step_of, Turn, turned, turn_end, go_on, parcels_run, word_run, fetched, turn_of}
+use Rattle.central_turn.specs.Turn.{stop_number, step_of, Turn, turned, turn_end, go_on, parcels_run, word_run, fetched, turn_of}
 use Rattle.central_apply.specs.Widths.{StateKept}
 use Rattle.central_apply.proofs.Widths.{KeptAfter}
 use Rattle.central_turn.specs.Laws.Step.{Later, step_keeps, step-reaches}
 use Rattle.central_field.specs.declared.address.Bounds.{Bounds}
-use Rattle.central_field.specs.declared.address.Place.{Place}
 use Rattle.central_apply.specs.declared.apply.Step.{Step}
 use Rattle.central_turn.specs.declared.turn.TurnEnd.{TurnEnd}
+use Rattle.central_field.specs.declared.address.Absolute.{Absolute}
 
 -- the state of the loop: what is left to run gives what the whole word gives
 pub record WordGoing (b : Bounds) (p w : ℕ) (s₀ s : State) (place : ℕ) : Type 0 where
@@ -30,7 +30,7 @@ pub word-going-start : (b : Bounds) (p w : ℕ) (s : State) → StateKept b.fl s
 word-going-start b p w s k = record { kept = k; most = 4; enough = omega arith; is = refl }
 
 module _ (b : Bounds) (p w : ℕ) (s : State) where
-  run_end : (most place : ℕ) → 4 ≤ place → turned s (turn_end (p + 1) 0) ≡ parcels_run most b p w s place
+  run_end : (most place : ℕ) → 4 ≤ place → turned s (turn_end (p + 1) None) ≡ parcels_run most b p w s place
   unfolding parcels_run
   run_end zero place h = refl
   run_end (suc most) place h = rw (le-ltb place 4 h)
@@ -42,7 +42,7 @@ module _ (b : Bounds) (p w : ℕ) (s : State) where
 
 -- b is a field in central memory, and p an address in it
 module _ (b : Bounds) (p w : ℕ) (room : b.fl ≤ 131072) (inside : p < b.fl) (s₀ s : State) (place : ℕ) (g : WordGoing b p w s₀ s place) where
-  pub word-going-end : 4 ≤ place → turned s (turn_end (p + 1) 0) ≡ word_run b p w s₀
+  pub word-going-end : 4 ≤ place → turned s (turn_end (p + 1) None) ≡ word_run b p w s₀
   word-going-end h = run_end b p w s g.most place h ∙ g.is
 
   -- the step that follows is o
@@ -81,11 +81,11 @@ module _ (b : Bounds) (p w : ℕ) (room : b.fl ≤ 131072) (inside : p < b.fl) (
         },
       )
 
--- what a turn leaves: the widths, a P of 18 bits, and a stop's number or 0
+-- what a turn leaves: the widths, a P of 18 bits, and a stop of a record, if any
 pub record TurnKept (n : ℕ) (t : Turn) : Type 0 where
   pub kept : StateKept n t.state
   pub p : t.end.p < 2 ^ 18
-  pub stop : central_stop_listed t.end.stop ≡ true
+  pub stop : central_stop_listed (stop_number t.end.stop) ≡ true
 
 module _ (n : ℕ) (b : Bounds) (room : b.fl ≤ 131072) where
   go-on-left : (p place : ℕ) → p < 2 ^ 18 → (rest : State → ℕ → Turn) → ((s : State) (k : ℕ) → StateKept n s → TurnKept n (rest s k))
@@ -108,6 +108,6 @@ module _ (n : ℕ) (b : Bounds) (room : b.fl ≤ 131072) where
   pub turn-left : (p : ℕ) (s : State) → p < 2 ^ 18 → StateKept n s → TurnKept n (turn_of b p s)
   unfolding turn_of place_of
   turn-left p s h k =
-      of-cond (λ (x : Place). TurnKept n (fetched b p s x)) (ltb p b.fl)
+      of-cond (λ (x : Option Absolute). TurnKept n (fetched b p s x)) (ltb p b.fl)
       (λ e. parcels-left p _ (ltb-true p b.fl e) 4 s 0 k)
       (λ e. record { kept = k; p = h; stop = refl })

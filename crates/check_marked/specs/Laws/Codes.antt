@@ -1,5 +1,5 @@
 -- What turns of the codes that the table names leave, of every operand.
-use Rattle.std.specs.Prelude.{◌≡◌, List, ℕ, ◌+◌, ◌*◌, ◌^◌, ◌<◌, get_or, set}
+use Rattle.std.specs.Prelude.{None, ◌≡◌, List, ℕ, ◌+◌, ◌*◌, ◌^◌, ◌<◌, get_or, set}
 use Rattle.std.proofs.Common.{arith, lit<}
 use borrow.Author.Tests.{lt-ltb, eq-eqb}
 use Rattle.word_arithmetic.specs.Bits.{bits, low}
@@ -67,7 +67,7 @@ module _ (k rest : ℕ) (lk : k < 2 ^ 18) (lr : rest < 2 ^ 30) where
   constant-is = omega arith
 
   pub turn-010 : (b : Bounds) (p : ℕ) (r f : List ℕ) → p < b.fl → k < b.fl → get_or f p 0 ≡ w
-      → turn_of b p (state r f) ≡ turned (state r (set f k (return_word p))) (turn_end (k + 1) 0)
+      → turn_of b p (state r f) ≡ turned (state r (set f k (return_word p))) (turn_end (k + 1) None)
   unfolding place_of is_long is_left_out is_fit parcels_of constant_at decoded branch_of effect_of return_jumped applied ran_at parcels_run turn_of
   turn-010 b p r f l m at =
       rw (lt-ltb p b.fl l, place-back b.ra p, at, code_is, i-is, constant-is, lt-ltb k b.fl m, place-back b.ra k)

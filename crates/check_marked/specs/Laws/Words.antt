@@ -1,5 +1,5 @@
 -- The turn of a word with one instruction and three that pass.
-use Rattle.std.specs.Prelude.{◌≡◌, List, ℕ, ◌+◌, ◌-◌, ◌*◌, ◌^◌, ◌<◌, get_or}
+use Rattle.std.specs.Prelude.{None, ◌≡◌, List, ℕ, ◌+◌, ◌-◌, ◌*◌, ◌^◌, ◌<◌, get_or}
 use Rattle.std.proofs.Common.{arith, lt-ltb}
 use Rattle.central_field.specs.declared.address.Bounds.{Bounds}
 use Rattle.central_field.specs.Address.{place_of}
@@ -45,13 +45,13 @@ module _ (c i j k : ℕ) (lc : c < 64) (li : i < 8) (lj : j < 8) (lk : k < 8) wh
   unfolding decoded
   pass-decoded place e = rw e
 
-  passes : (b : Bounds) (p : ℕ) (s : State) → parcels_run 3 b p w s 1 ≡ turned s (turn_end (p + 1) 0)
+  passes : (b : Bounds) (p : ℕ) (s : State) → parcels_run 3 b p w s 1 ≡ turned s (turn_end (p + 1) None)
   unfolding is_long is_left_out is_fit parcels_of mask_or_count_of effect_of applied ran_at parcels_run
   passes b p s = rw (pass-decoded 1 (omega arith), pass-decoded 2 (omega arith), pass-decoded 3 (omega arith))
 
   then-passes : (b : Bounds) (p : ℕ) (r r' f : List ℕ) → p < b.fl → get_or f p 0 ≡ w
       → ran_at (state r f) b p 0 (first_of c i j k) ≡ after r' f (Then.Next 1)
-      → turn_of b p (state r f) ≡ turned (state r' f) (turn_end (p + 1) 0)
+      → turn_of b p (state r f) ≡ turned (state r' f) (turn_end (p + 1) None)
   unfolding place_of parcels_run turn_of
   then-passes b p r r' f l at e = rw (lt-ltb p b.fl l, place-back b.ra p, at, first-decoded, e) (passes b p (state r' f))
 

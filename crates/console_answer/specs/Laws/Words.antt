@@ -2,21 +2,21 @@
 use Rattle.std.specs.Prelude.{List, [], ◌∷◌, ◌++◌, ◌≡◌, ℕ, ◌+◌, ◌≤◌, ◌<◌, length, drop, get_or}
 use Rattle.std.proofs.Common.{add-one, arith, eq-eqb, ne_eqb, drop_of_length-le}
 use Rattle.word_octal.specs.Write.{digits, octal}
-use Rattle.base_lists.specs.Written.{Wrote}
-use Rattle.base_lists.specs.Laws.Written.{wrote_none, wrote_then}
+use Rattle.word_octal.specs.Writes.{Writes}
+use Rattle.word_octal.specs.Laws.Writes.{writes_none, writes_then, writes_three}
+use Rattle.word_octal.specs.declared.write.Writer.{Writer}
 use Rattle.console_answer.specs.Text.{word_text, words_text}
 use Rattle.console_text.specs.Laws.Bytes.{drop-next}
 
-pub wrote-zero : (out : List ℕ) (at address word : ℕ) → word ≡ 0 → Wrote out at (word_text address word) out at
+pub writes_zero : (w : Writer) (address word : ℕ) → word ≡ 0 → Writes w (word_text address word) w
 unfolding word_text
-wrote-zero out at address word e = rw (eq-eqb word 0 e) (wrote_none out at)
+writes_zero w address word e = rw (eq-eqb word 0 e) (writes_none w)
 
 -- the address, the equals sign, the word and the line feed, one after the other
-pub wrote-nonzero : {out out₁ out₂ out₃ after : List ℕ} {at at₁ at₂ at₃ next : ℕ} (address word : ℕ) → 0 < word
-    → Wrote out at (octal address) out₁ at₁ → Wrote out₁ at₁ (61 ∷ []) out₂ at₂ → Wrote out₂ at₂ (digits 20 word) out₃ at₃
-    → Wrote out₃ at₃ (10 ∷ []) after next → Wrote out at (word_text address word) after next
+pub writes-nonzero : {w w₁ w₂ w₃ after : Writer} (address word : ℕ) → 0 < word → Writes w (octal address) w₁ → Writes w₁ (61 ∷ []) w₂
+    → Writes w₂ (digits 20 word) w₃ → Writes w₃ (10 ∷ []) after → Writes w (word_text address word) after
 unfolding word_text
-wrote-nonzero address word h a b c d = rw (ne_eqb word 0 (omega arith)) (wrote_then a (wrote_then b (wrote_then c d)))
+writes-nonzero address word h a b c d = rw (ne_eqb word 0 (omega arith)) (writes_then a (writes_three b c d))
 
 -- the lines of the words from address i on
 abbrev pub words_from : ℕ → List ℕ → List ℕ

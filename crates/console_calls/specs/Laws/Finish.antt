@@ -1,10 +1,11 @@
 -- The cases of the end of an input, and the answer to a whole input.
-use Rattle.std.specs.Prelude.{true, false, List, ◌++◌, ◌≡◌, refl, ℕ, ◌≤◌, ◌<◌, length, drop, take}
+use Rattle.std.specs.Prelude.{Ok, Err, true, false, List, ◌++◌, ◌≡◌, refl, ℕ, ◌≤◌, ◌<◌, length, drop, take}
 use Rattle.std.proofs.lemmas.Bool.{false≢true, lt-leb}
 use Rattle.std.proofs.Common.{sym, ap, subst, ◌∙◌, arith, le-leb, length-take-le}
 use Rattle.base_outcome.specs.Numbers.{refusal_number}
+use Rattle.base_outcome.specs.declared.refusal.Refusal as Reason
 use Rattle.base_outcome.specs.declared.refusal.Refusal.TheVariants as Refusal
-use Rattle.base_outcome.specs.declared.refusal.Verdict.{Verdict}
+use Rattle.base_outcome.specs.Verdict.{Verdict}
 use Rattle.base_lists.specs.Written.{Wrote}
 use Rattle.shared_schedule.specs.Refusals.{schedule_verdict}
 use Rattle.shared_calls.specs.Answer.{schedule_answer}
@@ -13,28 +14,25 @@ use Rattle.console_grammar.specs.Held.{Lists, Room, in_use, reading_at}
 use Rattle.console_grammar.specs.Laws.Blocks.{memory-length}
 use Rattle.console_grammar.specs.declared.progress.Part.{Part}
 use Rattle.console_grammar.specs.declared.progress.Part.TheVariants as Last
-use Rattle.console_reader.specs.Reader.{ReaderState, reader_state, empty_reader, bytes_fed, FeedAnswered, feed_answer_to, feed_answer_by, feed_answer, is_complete}
+use Rattle.console_reader.specs.Reader.{ReaderState, reader_state, empty_reader, bytes_fed, FeedAnswered, feed_answered, feed_answer_to, feed_answer_by, feed_answer, is_complete}
 use Rattle.console_reader.specs.Laws.BytesRead.{Feeding, feed_all, nothing_fed, held_by, end_of, is_readable}
 use Rattle.console_reader.specs.Fed.{ReaderReady}
 use Rattle.console_reader.specs.Laws.Feeding.{complete-is, complete-held, bytes-held}
 use Rattle.console_reader.specs.Laws.Input.{feed-input}
 use Rattle.console_reader.specs.Laws.Verdict.{ready-accepted}
-use Rattle.console_reader.specs.declared.reader.FeedAnswer.{FeedAnswer}
 use Rattle.console_reader.specs.declared.reader.Reader.{Reader}
 use Rattle.console_answer.specs.Text.{refused_text}
 use Rattle.console_calls.specs.Console.{schedule_in, printed, output_on, output_of}
-use Rattle.console_calls.specs.Finish.{most_bytes, Written, written, written_to, memory_after, finished_memory, Finished, finished, finish_to, finish_answer, Ran}
+use Rattle.console_calls.specs.Finish.{Output, most_bytes, Written, written, written_to, memory_after, finished_memory, Finished, finished, finish_to, finish_answer, Ran}
 use Rattle.console_calls.specs.Laws.Kept.{output-kept}
-use Rattle.console_calls.specs.declared.finish.Output.{Output}
-use Rattle.console_calls.specs.declared.finish.Output.TheVariants.{Bytes, Refused}
 
-pub finish-short : (x : Reading) (out m : List ℕ) → length out < most_bytes → finished (written (Refused Refusal.ListLength) out) m ≡ finish_to x out m
+pub finish-short : (x : Reading) (out m : List ℕ) → length out < most_bytes → finished (written (Err Refusal.ListLength) out) m ≡ finish_to x out m
 unfolding written_to finished_memory
 finish-short x out m h = rw (lt-leb most_bytes (length out) h)
 
 -- with room: what was written, and the memory
 written-room : {out out' bytes : List ℕ} {n : ℕ} → most_bytes ≤ length out → Wrote out 0 bytes out' n
-    → written (Bytes n) out' ≡ written_to bytes out
+    → written (Ok n) out' ≡ written_to bytes out
 unfolding written_to
 written-room {out} {out'} {bytes} {n} h w =
     let e : n ≡ length bytes = omega (arith, w.ends) in
@@ -61,7 +59,7 @@ unreadable-memory unreadable m e = refl
 
 pub finish-unreadable : {out out' : List ℕ} {n k : ℕ} (x : Reading) (m : List ℕ) → is_readable x ≡ false
     → n ≡ refusal_number Refusal.UnreadableLine → most_bytes ≤ length out → Wrote out 0 (refused_text n) out' k
-    → finished (written (Bytes k) out') m ≡ finish_to x out m
+    → finished (written (Ok k) out') m ≡ finish_to x out m
 finish-unreadable {out} {out'} {n} {k} x m e f h w =
     both-same (written-room h w ∙ ap (λ (bytes : List ℕ). written_to bytes out) (unreadable-out x n e f))
     (unreadable-memory x m e ∙ memory-room x out m h)
@@ -92,7 +90,7 @@ pieces m e f = rw (e, f)
 
 pub finish-run : {out out' m₁ : List ℕ} {n : ℕ} (r : Reader) (m : List ℕ) (l : Lists) → ReaderReady r m l → is_complete r ≡ true
     → most_bytes ≤ length out → Ran (schedule_in (in_use r.progress m l)) out out' n m₁
-    → finished (written (Bytes n) out') (m₁ ++ drop r.progress.words m) ≡ finish_to (end_of (held_by r m l)) out m
+    → finished (written (Ok n) out') (m₁ ++ drop r.progress.words m) ≡ finish_to (end_of (held_by r m l)) out m
 finish-run {out} {out'} {m₁} {n} r m l k e h ran =
     let p = r.progress in
     let q = in_use p m l in
@@ -118,13 +116,18 @@ empty-ready m l k =
     record { progress = record { words = omega arith; jobs = omega arith; stints = omega arith }; room = k; begun = omega arith; long = refl }
 
 -- a reader with its room, fed: no number refuses it
-fed-accepted : {a : FeedAnswer} {m' : List ℕ} {l' : Lists} (r : Reader) (m : List ℕ) (l : Lists) (bytes : List ℕ) → ReaderReady r m l
-    → feed_answer_to m' l' a ≡ feed_answer (reader_state r m l) bytes → reader_state a.reader m' l' ≡ bytes_fed (reader_state r m l) bytes
-unfolding feed_answer
-fed-accepted {a} {m'} {l'} r m l bytes k e =
-    let v = ready-accepted r m l k in
-    let accepted = e ∙ ap (λ (x : Verdict). feed_answer_by x (reader_state r m l) (bytes_fed (reader_state r m l) bytes)) v in
-    ap (λ (x : FeedAnswered). reader_state x.answer.reader x.memory x.lists) accepted
+module _ (r : Reader) (m : List ℕ) (l : Lists) (bytes : List ℕ) (k : ReaderReady r m l) where
+  fed-as : {a : FeedAnswered} → a ≡ feed_answer (reader_state r m l) bytes
+      → a ≡ feed_answered (Ok tt) (bytes_fed (reader_state r m l) bytes)
+  unfolding feed_answer
+  fed-as e = e ∙ ap (λ (x : Verdict). feed_answer_by x (reader_state r m l) (bytes_fed (reader_state r m l) bytes)) (ready-accepted r m l k)
+
+  fed-accepted : {r' : Reader} {m' : List ℕ} {l' : Lists} → feed_answer_to r m' l' (Ok r') ≡ feed_answer (reader_state r m l) bytes
+      → reader_state r' m' l' ≡ bytes_fed (reader_state r m l) bytes
+  fed-accepted e = ap (λ (x : FeedAnswered). reader_state x.reader x.memory x.lists) (fed-as e)
+
+  pub fed-not-refused : {x : Reason.Refusal} {m' : List ℕ} {l' : Lists} → feed_answer_to r m' l' (Err x) ≡ feed_answer (reader_state r m l) bytes → ⊥
+  fed-not-refused {x} e = let f : ◌≡◌ {A = Verdict} (Err x) (Ok tt) = ap (λ (y : FeedAnswered). y.verdict) (fed-as e) in cc
 
 -- a reader with its room, at the end of its input
 pub finish-ready : (r : Reader) (m : List ℕ) (l : Lists) (out : List ℕ) → ReaderReady r m l
@@ -132,16 +135,21 @@ pub finish-ready : (r : Reader) (m : List ℕ) (l : Lists) (out : List ℕ) → 
 unfolding finish_answer
 finish-ready r m l out k = rw (ready-accepted r m l k)
 
-pub whole-answer : {a : FeedAnswer} {o : Output} {out' m' m₁ : List ℕ} {l₁ : Lists} (out input : List ℕ) (r : Reader) (m : List ℕ) (l : Lists)
-    → r ≡ empty_reader → Room m l → feed_answer_to m₁ l₁ a ≡ feed_answer (reader_state r m l) input
-    → finished (written o out') m' ≡ finish_answer a.reader m₁ l₁ out → written o out' ≡ written_to (output_of input) out
-whole-answer {a} {o} {out'} {m'} {m₁} {l₁} out input r m l e k f g =
+pub whole-answer : {r' : Reader} {o : Output} {out' m' m₁ : List ℕ} {l₁ : Lists} (out input : List ℕ) (r : Reader) (m : List ℕ) (l : Lists)
+    → r ≡ empty_reader → Room m l → feed_answer_to r m₁ l₁ (Ok r') ≡ feed_answer (reader_state r m l) input
+    → finished (written o out') m' ≡ finish_answer r' m₁ l₁ out → written o out' ≡ written_to (output_of input) out
+whole-answer {r'} {o} {out'} {m'} {m₁} {l₁} out input r m l e k f g =
     let ready : ReaderReady r m l = rw e (empty-ready m l k) in
     let fed = fed-accepted r m l input ready f in
     let held = bytes-held (reader_state r m l) input ready in
     let after = subst (λ (s : ReaderState). ReaderReady s.reader s.memory s.lists) (sym fed) held.ready in
     let reads = ap (λ (s : ReaderState). held_by s.reader s.memory s.lists) fed ∙ held.is
     ∙ ap (λ (x : Reader). feed_all (held_by x m l) input) e in
-    ap (λ (x : Finished). x.written) (g ∙ finish-ready a.reader m₁ l₁ out after)
+    ap (λ (x : Finished). x.written) (g ∙ finish-ready r' m₁ l₁ out after)
     ∙ ap (λ (x : Feeding). written_to (output_on (end_of x)) out) reads
     ∙ ap (λ (bytes : List ℕ). written_to bytes out) (output-fed input)
+
+-- and the input of a whole answer is fed
+pub whole-fed : {x : Reason.Refusal} {m₁ : List ℕ} {l₁ : Lists} (input : List ℕ) (r : Reader) (m : List ℕ) (l : Lists)
+    → r ≡ empty_reader → Room m l → feed_answer_to r m₁ l₁ (Err x) ≡ feed_answer (reader_state r m l) input → ⊥
+whole-fed input r m l e k f = fed-not-refused r m l input (rw e (empty-ready m l k)) f

@@ -1,10 +1,9 @@
 -- No readable input meets the host's refusals, 1, 3 and 5: it is accepted, or refused with one of 6 to 12.
-use Rattle.std.specs.Prelude.{true, ◌&&◌, List, ◌≡◌, refl, ℕ, ◌≤◌, leb, length}
+use Rattle.std.specs.Prelude.{true, ◌&&◌, List, ◌≡◌, refl, ℕ, ◌≤◌, leb, length, Ok, Err}
 use Rattle.std.proofs.Common.{subst, arith, le-leb, leb-true}
 use Rattle.base_outcome.specs.Numbers.{refusal_number}
 use Rattle.base_outcome.specs.declared.refusal.Refusal.{Refusal}
-use Rattle.base_outcome.specs.declared.refusal.Verdict.{Verdict}
-use Rattle.base_outcome.specs.declared.refusal.Verdict.TheVariants as Call
+use Rattle.base_outcome.specs.Verdict.{Verdict}
 use Rattle.base_logic.specs.Laws.Choice.{of-cond}
 use Rattle.base_logic.specs.Laws.Tests.{both}
 use Rattle.base_lists.specs.Indexed.{all_below}
@@ -25,7 +24,7 @@ unfolding record_fits em_fits registers_fit all_below
 zero-fits n = rw (le-leb 0 n (omega arith))
 
 -- and a memory that an input can ask for is accepted with it
-memory-accepted : (m : List ℕ) → InputMemory m → host_verdict m zero_record ≡ Call.Accepted
+memory-accepted : (m : List ℕ) → InputMemory m → host_verdict m zero_record ≡ Ok tt
 memory-accepted m f =
     of-host-accepted m zero_record
     (record {
@@ -37,8 +36,8 @@ memory-accepted m f =
 
 -- accepted, or refused with a number of the schedule writer's (6 to 8) or of the package owners' (9 to 12)
 abbrev Numbered : Verdict → Type 0
-Numbered Call.Accepted = Unit {0}
-Numbered (Call.Refused r) = (leb 6 (refusal_number r) && leb (refusal_number r) 12) ≡ true
+Numbered (Ok _) = Unit {0}
+Numbered (Err r) = (leb 6 (refusal_number r) && leb (refusal_number r) 12) ≡ true
 
 lists-numbered : (jobs js ts : List ℕ) → Numbered (lists_verdict jobs js ts)
 unfolding lists_verdict
@@ -62,12 +61,12 @@ owners-numbered m jobs =
 
 -- the first refusal of two verdicts is one of theirs
 either-numbered : (v w : Verdict) → Numbered v → Numbered w → Numbered (or_else v w)
-either-numbered Call.Accepted w h g = g
-either-numbered (Call.Refused r) w h g = h
+either-numbered (Ok _) w h g = g
+either-numbered (Err r) w h g = h
 
 module _ (input : List ℕ) (part : Part) (q : Request) (e : reading_of input ≡ readable part q) where
   -- 1, 3 and 5 do not refuse a readable input
-  pub no-host-refusal : host_verdict q.memory zero_record ≡ Call.Accepted
+  pub no-host-refusal : host_verdict q.memory zero_record ≡ Ok tt
   no-host-refusal = memory-accepted q.memory (input-memory input part q e)
 
   verdict-numbered : Numbered (schedule_verdict (schedule_in q))
@@ -78,7 +77,7 @@ module _ (input : List ℕ) (part : Part) (q : Request) (e : reading_of input �
       (lists-numbered q.jobs q.stint_jobs q.stint_turns) (owners-numbered q.memory q.jobs))
 
   -- so 6 to 12 are the numbers that a readable input can be refused with
-  pub refusals-of-inputs : (r : Refusal) → schedule_verdict (schedule_in q) ≡ Call.Refused r → (6 ≤ refusal_number r) × (refusal_number r ≤ 12)
+  pub refusals-of-inputs : (r : Refusal) → schedule_verdict (schedule_in q) ≡ Err r → (6 ≤ refusal_number r) × (refusal_number r ≤ 12)
   refusals-of-inputs r f =
       let b = both (leb 6 (refusal_number r)) (leb (refusal_number r) 12) (subst Numbered f verdict-numbered) in
       (leb-true 6 (refusal_number r) b.0, leb-true (refusal_number r) 12 b.1)

@@ -1,8 +1,7 @@
 -- Lists that are too long are refused with 6, however long, so the entries that a reader keeps give the answer of all.
-use Rattle.std.specs.Prelude.{Bool, true, false, List, [], ◌∷◌, ◌≡◌, refl, ℕ, zero, suc, ◌≤◌, length, take}
+use Rattle.std.specs.Prelude.{Bool, true, false, List, [], ◌∷◌, ◌≡◌, refl, ℕ, zero, suc, ◌≤◌, length, take, Ok, Err}
 use Rattle.std.proofs.Common.{ap, arith, take_all}
-use Rattle.base_outcome.specs.declared.refusal.Verdict.{Verdict}
-use Rattle.base_outcome.specs.declared.refusal.Verdict.TheVariants as Call
+use Rattle.base_outcome.specs.Verdict.{Verdict}
 use Rattle.base_outcome.specs.declared.refusal.Refusal.TheVariants as Refusal
 use Rattle.central_record.specs.Record.{host_verdict}
 use Rattle.base_outcome.specs.Order.{or_else}
@@ -45,20 +44,20 @@ fits-firsts q e =
 
 -- lists that do not fit are refused with 6, or with a lower number that does not depend on them
 abbrev pub refused_by : Verdict → Verdict
-refused_by Call.Accepted = Call.Refused Refusal.ListLength
-refused_by (Call.Refused r) = Call.Refused r
+refused_by (Ok _) = Err Refusal.ListLength
+refused_by (Err r) = Err r
 
-refused-first : (v w : Verdict) → or_else v (or_else (Call.Refused Refusal.ListLength) w) ≡ refused_by v
-refused-first Call.Accepted w = refl
-refused-first (Call.Refused r) w = refl
+refused-first : (v w : Verdict) → or_else v (or_else (Err Refusal.ListLength) w) ≡ refused_by v
+refused-first (Ok _) w = refl
+refused-first (Err r) w = refl
 
 pub unfit : (q : Request) → fit q ≡ false → schedule_verdict (schedule_in q) ≡ refused_by (host_verdict q.memory zero_record)
 unfolding schedule_verdict lists_verdict
 unfit q e = rw e (refused-first (host_verdict q.memory zero_record) (owners_verdict q.memory q.jobs))
 
 printed-refused : (v : Verdict) (s t : Schedule) → printed (refused_by v) s ≡ printed (refused_by v) t
-printed-refused Call.Accepted s t = refl
-printed-refused (Call.Refused r) s t = refl
+printed-refused (Ok _) s t = refl
+printed-refused (Err r) s t = refl
 
 abbrev answered : Request → List ℕ
 answered q = printed (schedule_verdict (schedule_in q)) (schedule_in q)

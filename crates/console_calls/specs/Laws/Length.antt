@@ -1,13 +1,12 @@
 -- No answer is longer than the room that is asked for it.
-use Rattle.std.specs.Prelude.{Bool, true, false, List, [], ◌≡◌, ℕ, ◌≤◌, leb, length, take}
+use Rattle.std.specs.Prelude.{IfOk, Bool, true, false, List, [], ◌≡◌, ℕ, ◌≤◌, leb, length, take, Ok, Err}
 use Rattle.std.proofs.Math.Path.{refl}
 use Rattle.std.proofs.Common.{sym, ap, subst, ◌∙◌, arith, leb-true, length-append, length-take}
 use Rattle.std.proofs.Math.Nat.{min-le_right}
 use Rattle.std.proofs.Math.Seq.{length-sets}
 use Rattle.base_outcome.specs.Numbers.{refusal_number}
 use Rattle.base_outcome.specs.declared.refusal.Refusal.TheVariants as Refusal
-use Rattle.base_outcome.specs.declared.refusal.Verdict.{Verdict}
-use Rattle.base_outcome.specs.declared.refusal.Verdict.TheVariants as Call
+use Rattle.base_outcome.specs.Verdict.{Verdict}
 use Rattle.shared_schedule.specs.Isolation.{ScheduleAccepted}
 use Rattle.shared_schedule.specs.Laws.Projection.{stints-length-back}
 use Rattle.shared_schedule.proofs.Refusals.{accepted-lists, accepted-ready}
@@ -26,13 +25,11 @@ use Rattle.console_reader.specs.Reader.{reader_verdict}
 use Rattle.console_reader.specs.declared.reader.Reader.{Reader}
 use Rattle.console_answer.specs.Laws.Lengths.{length-stints, length-words, length-refused}
 use Rattle.console_calls.specs.Console.{schedule_in, printed, output_on, output_of}
-use Rattle.console_calls.specs.Finish.{most_bytes, bytes_in, written, written_to, Finished, finished, finish_by, finish_answer}
-use Rattle.console_calls.specs.declared.finish.Output.{Output}
-use Rattle.console_calls.specs.declared.finish.Output.TheVariants.{Bytes}
+use Rattle.console_calls.specs.Finish.{Output, most_bytes, bytes_in, written, written_to, Finished, finished, finish_by, finish_answer}
 
 printed-fits : (q : Request) → length q.memory ≤ 4096 → (v : Verdict) → schedule_verdict (schedule_in q) ≡ v
     → length (printed v (schedule_in q)) ≤ most_bytes
-printed-fits q h Call.Accepted e =
+printed-fits q h (Ok _) e =
     let s = schedule_in q in
     let a : ScheduleAccepted s = record { verdict = e; registers = refl } in
     let lists = accepted-lists s a in
@@ -40,7 +37,7 @@ printed-fits q h Call.Accepted e =
     let end = schedule_end s in
     simp length-append
     (omega (arith, lists.fit.most-stints, length-stints 0 q.stint_jobs end.turns end.stops, length-words 0 end.memory, same))
-printed-fits q h (Call.Refused r) e = omega (arith, length-refused (refusal_number r))
+printed-fits q h (Err r) e = omega (arith, length-refused (refusal_number r))
 
 abbrev Fits : Reading → Type 0
 Fits x = length (output_on x) ≤ most_bytes
@@ -90,17 +87,23 @@ written-fits bytes out h true e = rw (e, length-sets out 0 bytes) (omega (arith,
 written-fits bytes out h false e = rw e (omega arith)
 
 -- so the bytes that an answer takes up are bytes of the buffer
-module _ {n : ℕ} {out' m' : List ℕ} (r : Reader) (out m : List ℕ) (l : Lists) (o : Output) (e : o ≡ Bytes n) where
+module _ {n : ℕ} {out' m' : List ℕ} (r : Reader) (out m : List ℕ) (l : Lists) (o : Output) (e : o ≡ Ok n) where
   inside-by : (v : Verdict) → reader_verdict r m l ≡ v → finished (written o out') m' ≡ finish_by v (end_of (held_by r m l)) out m → n ≤ length out'
-  inside-by Call.Accepted k f =
+  inside-by (Ok tt) k f =
       let bytes = output_on (end_of (held_by r m l)) in
       let count : n ≡ bytes_in (written_to bytes out).answer = sym (ap bytes_in e) ∙ ap (λ (x : Finished). bytes_in x.written.answer) f in
       let size : length out' ≡ length (written_to bytes out).out = ap (λ (x : Finished). length x.written.out) f in
       rw (count, size) (written-fits bytes out (held_fits r m l (accepted-memory r m l k)) (leb most_bytes (length out)) refl)
-  inside-by (Call.Refused x) k f =
+  inside-by (Err x) k f =
       let none : n ≡ 0 = sym (ap bytes_in e) ∙ ap (λ (y : Finished). bytes_in y.written.answer) f in
       omega (arith, none)
 
   pub bytes_inside : finished (written o out') m' ≡ finish_answer r m l out → n ≤ length out'
   unfolding finish_answer
   bytes_inside f = inside-by (reader_verdict r m l) refl f
+
+-- of every answer
+pub answer_inside : {out' m' : List ℕ} (r : Reader) (out m : List ℕ) (l : Lists) (o : Output) → finished (written o out') m' ≡ finish_answer r m l out
+    → IfOk o (λ n. n ≤ length out')
+answer_inside r out m l (Ok n) f = bytes_inside r out m l (Ok n) refl f
+answer_inside r out m l (Err x) f = tt

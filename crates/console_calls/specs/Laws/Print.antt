@@ -1,11 +1,10 @@
 -- The answer of a schedule as the console prints it.
-use Rattle.std.specs.Prelude.{List, ◌++◌, ◌≡◌, refl, ℕ, ◌+◌, ◌-◌, ◌*◌, ◌≤◌, length, replicate}
+use Rattle.std.specs.Prelude.{List, ◌++◌, ◌≡◌, refl, ℕ, ◌+◌, ◌-◌, ◌*◌, ◌≤◌, length, replicate, Ok, Err}
 use Rattle.std.proofs.Common.{sym, subst, ◌∙◌, arith}
 use Rattle.std.proofs.Math.Path.{ap}
 use Rattle.base_outcome.specs.Numbers.{refusal_number}
 use Rattle.base_outcome.specs.declared.refusal.Refusal.{Refusal}
-use Rattle.base_outcome.specs.declared.refusal.Verdict.{Verdict}
-use Rattle.base_outcome.specs.declared.refusal.Verdict.TheVariants as Call
+use Rattle.base_outcome.specs.Verdict.{Verdict}
 use Rattle.base_lists.specs.Written.{Wrote}
 use Rattle.base_lists.specs.Laws.Written.{length-wrote, wrote_then}
 use Rattle.central_record.specs.declared.record.Central.{Central}
@@ -15,7 +14,7 @@ use Rattle.shared_schedule.specs.Schedule.{Schedule, schedule_end, schedule_of}
 use Rattle.shared_schedule.proofs.Refusals.{ListsAccepted, accepted-lists}
 use Rattle.shared_calls.specs.Answer.{ScheduleAnswered, schedule_answer_to, schedule_answer_by, schedule_answer}
 use Rattle.shared_calls.specs.Laws.Isolation.{same-verdict, one_each}
-use Rattle.shared_calls.specs.declared.call.ScheduleAnswer.{ScheduleAnswer}
+use Rattle.shared_calls.specs.Answer.{ScheduleAnswer}
 use Rattle.console_grammar.specs.Reading.{Request, request}
 use Rattle.console_answer.specs.Laws.Lengths.{length-stints}
 use Rattle.console_answer.specs.Laws.Stints.{stints-padded}
@@ -26,18 +25,18 @@ use Rattle.console_calls.specs.Finish.{most_bytes, printed_by, Ran}
 abbrev printed_of : ScheduleAnswered → List ℕ → List ℕ
 printed_of a js = printed_by a.answer.verdict js a.answer.turns a.answer.stops a.memory
 
-printed-as : (s : Schedule) (v : Verdict) → (v ≡ Call.Accepted → length s.stint_jobs ≡ length s.stint_turns)
+printed-as : (s : Schedule) (v : Verdict) → (v ≡ Ok tt → length s.stint_jobs ≡ length s.stint_turns)
     → printed_of (schedule_answer_by v s) s.stint_jobs ≡ printed v s
-printed-as s Call.Accepted even =
+printed-as s (Ok _) even =
     let o = schedule_end s in
     let sizes = one_each s.jobs s.stint_jobs s.stint_turns s.memory s.central (even refl) in
     let unused : List ℕ → List ℕ = λ l. replicate (most_stints - length l) 0 in
     ap (λ (lines : List ℕ). lines ++ words_text 0 o.memory)
     (stints-padded 0 s.stint_jobs o.turns o.stops (unused o.turns) (unused o.stops) sizes.0 sizes.1)
-printed-as s (Call.Refused r) even = refl
+printed-as s (Err r) even = refl
 
 -- what an accepted request says of its lists
-lists_of : (q : Request) → schedule_verdict (schedule_in q) ≡ Call.Accepted → ListsAccepted q.jobs q.stint_jobs q.stint_turns
+lists_of : (q : Request) → schedule_verdict (schedule_in q) ≡ Ok tt → ListsAccepted q.jobs q.stint_jobs q.stint_turns
 lists_of q e = accepted-lists (schedule_in q) (record { verdict = e; registers = refl })
 
 -- the call is made with the record of the console
@@ -58,7 +57,7 @@ module _ (q : Request) (m' : List ℕ) (a : ScheduleAnswer) (e : schedule_answer
   unfolding schedule_answer
   answered-verdict = ap (λ (x : ScheduleAnswered). x.answer.verdict) e ∙ same-verdict (schedule_verdict (schedule_in q)) (schedule_in q)
 
-  pub printed-stints : a.verdict ≡ Call.Accepted → length q.stint_jobs ≤ most_stints
+  pub printed-stints : a.verdict ≡ Ok tt → length q.stint_jobs ≤ most_stints
   printed-stints f = (lists_of q (sym answered-verdict ∙ f)).fit.most-stints
 
 -- the room that is left after the lines of the stints
@@ -67,11 +66,11 @@ pub room-left : {out after : List ℕ} {next : ℕ} (js ts ps m : List ℕ) → 
 room-left js ts ps m w h k l = omega (arith, w.ends, length-stints 0 js ts ps, length-wrote w)
 
 -- what each verdict prints
-pub prints-accepted : {out after end : List ℕ} {v : Verdict} {n p : ℕ} (js ts ps m : List ℕ) → v ≡ Call.Accepted
+pub prints-accepted : {out after end : List ℕ} {v : Verdict} {n p : ℕ} (js ts ps m : List ℕ) → v ≡ Ok tt
     → Wrote out 0 (stints_text 0 js ts ps) after n → Wrote after n (words_text 0 m) end p → Wrote out 0 (printed_by v js ts ps m) end p
 prints-accepted js ts ps m e w x = rw e (wrote_then w x)
 
-pub prints-refused : {out end : List ℕ} {v : Verdict} {r : Refusal} {n p : ℕ} (js ts ps m : List ℕ) → v ≡ Call.Refused r
+pub prints-refused : {out end : List ℕ} {v : Verdict} {r : Refusal} {n p : ℕ} (js ts ps m : List ℕ) → v ≡ Err r
     → n ≡ refusal_number r → Wrote out 0 (refused_text n) end p → Wrote out 0 (printed_by v js ts ps m) end p
 prints-refused js ts ps m e f w = rw (e, ← f) w
 

@@ -1,5 +1,5 @@
 -- Every word is printed whole: after an accepted schedule each has 60 bits, and its 20 digits say all of it.
-use Rattle.std.specs.Prelude.{◌++◌, ◌≡◌, ℕ, ◌^◌, ◌<◌, get_or}
+use Rattle.std.specs.Prelude.{Some, ◌++◌, ◌≡◌, ℕ, ◌^◌, ◌<◌, get_or}
 use Rattle.word_octal.specs.Laws.Again.{read-text}
 use Rattle.word_octal.specs.Laws.Write.{length_digits}
 use Rattle.word_octal.specs.Write.{digits}
@@ -25,5 +25,5 @@ pub end-words : (s : Schedule) → ScheduleAccepted s → (i : ℕ) → get_or (
 end-words s a = word_width (schedule_end s).memory (host-kept s a).words
 
 -- the digits that are printed of a word, in a line of an input, are that word again
-pub word-again : (w : ℕ) → w < 2 ^ 60 → line_of (word_is ++ digits 20 w) ≡ Word w
+pub word-again : (w : ℕ) → w < 2 ^ 60 → line_of (word_is ++ digits 20 w) ≡ Some (Word w)
 word-again w h = word_read (digits 20 w) (read-text 20 w h) (length_digits 20 w)

@@ -1,4 +1,5 @@
 -- The lines of a block: where it begins, and its words.
+use Rattle.std.specs.Prelude.{Some}
 use Rattle.std.proofs.Math.Bool.{and-false}
 use Rattle.std.specs.Prelude.{List, ◌≡◌, ℕ, ◌+◌, ◌≤◌, ◌<◌, ltb, length, take, set}
 use Rattle.std.proofs.Common.{arith, length-take-le}
@@ -30,7 +31,7 @@ begun-inside p a k h =
       is = λ m l room. rw (memory-length p m k room.memory, lt-ltb a p.words h) (in-use-stored (in_block a a) p m l k room);
     }
 
-at_first : (part : Part) (a : ℕ) → part ≡ Last.Words → (q : Request) → begin_at a q ≡ line_to (reading_at part q) (At a)
+at_first : (part : Part) (a : ℕ) → part ≡ Last.Words → (q : Request) → begin_at a q ≡ line_to (reading_at part q) (Some (At a))
 unfolding line_to at_to
 at_first part a e q = rw e
 
@@ -39,15 +40,15 @@ unfolding store_line
 begin-first {p} {r} {a} e b m l room = record { is = rw (← at_first p.part a e (in_use p m l)) (b.is m l room) }
 
 module _ (part : Part) (b e a : ℕ) (k : part ≡ Last.Block b e) where
-  pub at-or-below : a ≤ b → (q : Request) → line_to (reading_at part q) (At a) ≡ unreadable
+  pub at-or-below : a ≤ b → (q : Request) → line_to (reading_at part q) (Some (At a)) ≡ unreadable
   unfolding line_to at_to
   at-or-below h q = rw (k, le-ltb b a h)
 
-  pub below_end : a < e → (q : Request) → line_to (reading_at part q) (At a) ≡ unreadable
+  pub below_end : a < e → (q : Request) → line_to (reading_at part q) (Some (At a)) ≡ unreadable
   unfolding line_to at_to
   below_end h q = rw (k, lt-leb e a h, and-false (ltb b a))
 
-  at_next : b < a → e ≤ a → (q : Request) → begin_at a q ≡ line_to (reading_at part q) (At a)
+  at_next : b < a → e ≤ a → (q : Request) → begin_at a q ≡ line_to (reading_at part q) (Some (At a))
   unfolding line_to at_to
   at_next above h q = rw (k, lt-ltb b a above, le-leb e a h)
 
@@ -58,7 +59,7 @@ begin-next {p} {r} {b} {e} {a} k above h f m l room =
 
 -- a word of a block
 module _ {p : Progress} {m : List ℕ} {b e w : ℕ} (k : CountsFit p) (f : p.part ≡ Last.Block b e) where
-  pub block-word-read : e < p.words → LineRead (Word w) p m (block p b (e + 1)) (set m e w)
+  pub block-word-read : e < p.words → LineRead (Some (Word w)) p m (block p b (e + 1)) (set m e w)
   unfolding store_line line_to word_to
   block-word-read h l room =
       record {

@@ -1,4 +1,5 @@
 -- What may follow the lines read so far, and what is asked for once it has.
+use Rattle.std.specs.Prelude.{Option}
 use Rattle.std.specs.Prelude.{List, [], ◌∷◌, ◌++◌, map, ◌≡◌, refl, ℕ, ◌+◌, ◌≤◌, length, set, replicate}
 use Rattle.std.proofs.Common.{append_assoc, append-nil, add-one}
 use Rattle.std.proofs.lemmas.List.Edits.{sets}
@@ -8,7 +9,7 @@ use Rattle.console_grammar.specs.Reading.{Request, request, Part, after_words, i
 use Rattle.console_grammar.specs.Grammar.{Block, StintLine, word_lines, block_lines, job_lines, stint_lines, Above, Blocks, loaded, stint_jobs, stint_turns}
 
 -- the reading of lines, their texts apart
-unfoldable pub all_lines : Reading → List Line → Reading
+unfoldable pub all_lines : Reading → List (Option Line) → Reading
 all_lines r [] = r
 all_lines r (line ∷ ls) = all_lines (line_to r line) ls
 
@@ -18,7 +19,7 @@ texts-lines r [] = refl
 texts-lines r (text ∷ texts) = texts-lines (line_to r (line_of text)) texts
 
 -- what may follow a readable line: words of the block that has begun, blocks, jobs and stints
-abbrev pub rest_lines : List ℕ → List Block → List ℕ → List StintLine → List Line
+abbrev pub rest_lines : List ℕ → List Block → List ℕ → List StintLine → List (Option Line)
 rest_lines ws bs js ss = word_lines ws ++ (block_lines bs ++ (job_lines js ++ stint_lines ss))
 
 -- a block that begins at b ends at e, in a memory of n words, and these blocks follow

@@ -1,4 +1,5 @@
 -- The lines job= and stint=: one entry more, or a list that is full.
+use Rattle.std.specs.Prelude.{Some}
 use Rattle.std.specs.Prelude.{List, [], ◌∷◌, ◌++◌, ◌≡◌, ℕ, ◌+◌, ◌≤◌, ◌<◌, length, take, set}
 use Rattle.std.proofs.Common.{arith}
 use Rattle.console_line.specs.declared.form.Line.TheVariants.{Job, Stint}
@@ -12,22 +13,22 @@ use Rattle.console_grammar.specs.declared.progress.Part.TheVariants as Last
 use Rattle.console_grammar.specs.declared.progress.Progress.{Progress}
 
 -- no job or stint before words=, and no job after a stint
-pub job-first : (part : Part) (a : ℕ) → part ≡ Last.Start → (q : Request) → line_to (reading_at part q) (Job a) ≡ unreadable
+pub job-first : (part : Part) (a : ℕ) → part ≡ Last.Start → (q : Request) → line_to (reading_at part q) (Some (Job a)) ≡ unreadable
 unfolding line_to
 job-first part a e q = rw e
 
-pub job-late : (part : Part) (a : ℕ) → part ≡ Last.Stints → (q : Request) → line_to (reading_at part q) (Job a) ≡ unreadable
+pub job-late : (part : Part) (a : ℕ) → part ≡ Last.Stints → (q : Request) → line_to (reading_at part q) (Some (Job a)) ≡ unreadable
 unfolding line_to job_to
 job-late part a e q = rw e
 
 pub stint-first : (part : Part) (job turns : ℕ) → part ≡ Last.Start → (q : Request)
-    → line_to (reading_at part q) (Stint job turns) ≡ unreadable
+    → line_to (reading_at part q) (Some (Stint job turns)) ≡ unreadable
 unfolding line_to
 stint-first part job turns e q = rw e
 
 -- a job more
 module _ {p : Progress} {a : ℕ} {js : List ℕ} (long : length js ≡ job_entries) (k : CountsFit p)
-    (added : (q : Request) → line_to (reading_at p.part q) (Job a) ≡ readable in_jobs (with_job q a)) where
+    (added : (q : Request) → line_to (reading_at p.part q) (Some (Job a)) ≡ readable in_jobs (with_job q a)) where
   job-stored : (n : ℕ) (js' : List ℕ) → Laid n (take job_entries (take p.jobs js ++ (a ∷ []))) js js' → JobRead a p js (jobs_in_use p n) js'
   unfolding store_line
   job-stored n js' e m ss ts room =
@@ -47,7 +48,7 @@ module _ {p : Progress} {a : ℕ} {js : List ℕ} (long : length js ≡ job_entr
 
 -- a stint more
 module _ {p : Progress} {job turns : ℕ} {ss ts : List ℕ} (long : length ss ≡ stint_entries) (long' : length ts ≡ stint_entries) (k : CountsFit p)
-    (added : (q : Request) → line_to (reading_at p.part q) (Stint job turns) ≡ readable in_stints (with_stint q job turns)) where
+    (added : (q : Request) → line_to (reading_at p.part q) (Some (Stint job turns)) ≡ readable in_stints (with_stint q job turns)) where
   stint-stored : (n : ℕ) (ss' ts' : List ℕ) → Laid n (take stint_entries (take p.stints ss ++ (job ∷ []))) ss ss'
       → Laid n (take stint_entries (take p.stints ts ++ (turns ∷ []))) ts ts' → StintRead job turns p ss ts (stints_in_use p n) ss' ts'
   unfolding store_line

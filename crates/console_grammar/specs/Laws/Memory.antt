@@ -1,4 +1,5 @@
 -- The memory that a readable input asks for has 1 to 4,096 words, each of 60 bits.
+use Rattle.std.specs.Prelude.{Option}
 use Rattle.std.specs.Prelude.{List, [], ◌∷◌, ◌++◌, map, ℕ, zero, suc, ◌^◌, ◌≤◌, ◌<◌, length, get_or, set, replicate}
 use Rattle.std.proofs.Common.{subst, arith, lit<}
 use Rattle.std.proofs.lemmas.List.Edits.{sets}
@@ -55,7 +56,7 @@ content-below (w ∷ ws) h = (h.0, content-below ws h.1)
 loaded-below : (m : List ℕ) (bs : List Block) → Each LineFits (block_lines bs) → Each Below60 m → Each Below60 (loaded m bs)
 loaded-below m [] g h = h
 loaded-below m (b ∷ bs) g h =
-    let words : List Line = word_lines b.content in
+    let words : List (Option Line) = word_lines b.content in
     loaded-below (sets m b.at b.content) bs (each-second LineFits words (block_lines bs) g.1)
     (each-sets Below60 m b.at b.content (content-below b.content (each_first LineFits words (block_lines bs) g.1)) h)
 

@@ -1,58 +1,77 @@
 -- The definitions of a stint's line and of a line, by the branches that the code takes.
-use Rattle.std.specs.Prelude.{Bool, true, false, List, ◌≡◌, ℕ, ◌+◌, ◌-◌, length, take, drop}
+use Rattle.std.specs.Prelude.{Option, Some, None, Bool, true, false, position, List, ◌≡◌, ℕ, ◌+◌, ◌-◌, eqb, length, take, drop}
+use Rattle.std.specs.Cmp.Lexicographic.{pointwise}
 use Rattle.std.proofs.Common.{sym, ◌∙◌, arith, length-drop, take_all}
 use borrow.Author.Tests.{eq-eqb, ne_eqb}
-use Rattle.word_octal.specs.declared.text.Value.{Value}
 use Rattle.console_line.specs.Form.{word, number, begins, comma, one, two, stint, line_of}
+use Rattle.console_line.specs.Laws.Text.{begins-tested, comma_found, comma_none}
 use Rattle.console_text.specs.Names.{words_is, at_is, word_is, job_is, stint_is}
 use Rattle.console_line.specs.declared.form.Line.{Line}
-use Rattle.console_line.specs.declared.form.Line.TheVariants.{Words, At, Word, Job, Unreadable}
+use Rattle.console_line.specs.declared.form.Line.TheVariants.{Words, At, Word, Job}
 
 -- the value of a test, by the answer that the code got for it
 pub tested : {answer test value : Bool} → answer ≡ test → answer ≡ value → test ≡ value
 tested e h = sym e ∙ h
 
+-- the line of one value, by the answer r that the code got for it
+module _ (f : ℕ → Line) {line : Option Line} {r value : Option ℕ} (is : line ≡ one f value) (e : r ≡ value) where
+  pub said : {v : ℕ} → r ≡ Some v → Some (f v) ≡ line
+  said h = sym (is ∙ rw (sym e ∙ h))
+
+  pub not-said : r ≡ None → {result : Option Line} → result ≡ None → result ≡ line
+  not-said h n = n ∙ sym (is ∙ rw (sym e ∙ h))
+
 module _ (text : List ℕ) where
-  -- the code lends what follows place k as a part of the length that is left
-  rest : (k : ℕ) → take (length text - k) (drop k text) ≡ drop k text
-  rest k = take_all (length text - k) (drop k text) (simp length-drop (omega arith))
+  pub stint-none : {r : Option ℕ} → r ≡ position (λ byte. eqb byte 44) text → r ≡ None → None ≡ stint text
+  unfolding stint
+  stint-none e h = rw (eq-eqb (comma text) (length text) (comma_none text (sym e ∙ h)))
 
-  module _ {k : ℕ} (e : k ≡ comma text) where
-    pub stint-none : k ≡ length text → Unreadable ≡ stint text
-    unfolding stint
-    stint-none h = rw (← e, eq-eqb k (length text) h)
+  -- the code lends what follows the comma as a part of the length that is left
+  pub stint-some : {r : Option ℕ} {k : ℕ} → r ≡ position (λ byte. eqb byte 44) text → r ≡ Some k
+      → stint text ≡ two (number (take k text)) (number (take (length text - (k + 1)) (drop (k + 1) text)))
+  unfolding stint
+  stint-some {k = k} e h =
+      let found = comma_found text (sym e ∙ h) in
+      let rest = take_all (length text - (k + 1)) (drop (k + 1) text) (simp length-drop (omega arith)) in
+      rw (rest, ← found.0, ne_eqb k (length text) (λ z. omega (arith, found.1)))
 
-    pub stint-some : {job turns : Value} {r : Line} → (k ≡ length text → ⊥) → job ≡ number (take k text)
-        → turns ≡ number (take (length text - (k + 1)) (drop (k + 1) text)) → r ≡ two job turns → r ≡ stint text
-    unfolding stint
-    stint-some h j t b = rw (← e, ne_eqb k (length text) h) (b ∙ rw (j, t, rest (k + 1)))
+module _ (text : List ℕ) where
+  -- what `strip_prefix` says of a name: what follows it, or that the text does not begin with it
+  abbrev Strips : List ℕ → List ℕ → Type 0 → Type 0
+  Strips name rest fits = (pointwise eqb (take (length name) text) name ≡ true) × (rest ≡ drop (length name) text) × fits
 
-  -- each form where the names before it do not match
-  module _ {r : Line} where
-    pub line-words : begins words_is text ≡ true → r ≡ one Words (number (take (length text - 6) (drop 6 text))) → r ≡ line_of text
+  abbrev Differs : List ℕ → Type 0
+  Differs name = pointwise eqb (take (length name) text) name ≡ false
+
+  begun : (name : List ℕ) (t : Bool) → pointwise eqb (take (length name) text) name ≡ t → begins name text ≡ t
+  begun name t h = sym (begins-tested name text) ∙ h
+
+  module _ {rest : List ℕ} {fits : Type 0} where
+    pub line-words : Strips words_is rest fits → line_of text ≡ one Words (number rest)
     unfolding line_of
-    line-words h e = e ∙ rw (rest 6, h)
+    line-words s = rw (begun words_is true s.0, s.1)
 
-    module _ (w : begins words_is text ≡ false) where
-      pub line_at : begins at_is text ≡ true → r ≡ one At (number (take (length text - 3) (drop 3 text))) → r ≡ line_of text
+    module _ (w : Differs words_is) where
+      pub line_at : Strips at_is rest fits → line_of text ≡ one At (number rest)
       unfolding line_of
-      line_at h e = e ∙ rw (rest 3, w, h)
+      line_at s = rw (begun words_is false w, begun at_is true s.0, s.1)
 
-      module _ (a : begins at_is text ≡ false) where
-        pub line_word : begins word_is text ≡ true → r ≡ one Word (word (take (length text - 5) (drop 5 text))) → r ≡ line_of text
+      module _ (a : Differs at_is) where
+        pub line_word : Strips word_is rest fits → line_of text ≡ one Word (word rest)
         unfolding line_of
-        line_word h e = e ∙ rw (rest 5, w, a, h)
+        line_word s = rw (begun words_is false w, begun at_is false a, begun word_is true s.0, s.1)
 
-        module _ (o : begins word_is text ≡ false) where
-          pub line-job : begins job_is text ≡ true → r ≡ one Job (number (take (length text - 4) (drop 4 text))) → r ≡ line_of text
+        module _ (o : Differs word_is) where
+          pub line-job : Strips job_is rest fits → line_of text ≡ one Job (number rest)
           unfolding line_of
-          line-job h e = e ∙ rw (rest 4, w, a, o, h)
+          line-job s = rw (begun words_is false w, begun at_is false a, begun word_is false o, begun job_is true s.0, s.1)
 
-          module _ (j : begins job_is text ≡ false) where
-            pub line-stint : begins stint_is text ≡ true → r ≡ stint (take (length text - 6) (drop 6 text)) → r ≡ line_of text
-            unfolding line_of
-            line-stint h e = e ∙ rw (rest 6, w, a, o, j, h)
+          pub line-stint : Differs job_is → Strips stint_is rest fits → line_of text ≡ stint rest
+          unfolding line_of
+          line-stint j s =
+              rw (begun words_is false w, begun at_is false a, begun word_is false o, begun job_is false j, begun stint_is true s.0, s.1)
 
-            pub line-none : begins stint_is text ≡ false → r ≡ Unreadable → r ≡ line_of text
-            unfolding line_of
-            line-none h e = e ∙ rw (w, a, o, j, h)
+  pub line-none : Differs words_is → Differs at_is → Differs word_is → Differs job_is → Differs stint_is → line_of text ≡ None
+  unfolding line_of
+  line-none w a o j n =
+      rw (begun words_is false w, begun at_is false a, begun word_is false o, begun job_is false j, begun stint_is false n)

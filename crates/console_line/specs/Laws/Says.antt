@@ -1,5 +1,5 @@
 -- A line that is read has the form of what it says.
-use Rattle.std.specs.Prelude.{true, ◌≡◌, refl, ℕ, ◌+◌, eqb, length}
+use Rattle.std.specs.Prelude.{Option, Some, None, true, ◌≡◌, refl, ℕ, ◌+◌, eqb, length}
 use mathlib.Core.List.{List, ◌∷◌, ◌++◌}
 use Rattle.std.proofs.Math.Path.{ap}
 use Rattle.std.proofs.Common.{◌∙◌}
@@ -7,45 +7,43 @@ use Rattle.std.proofs.Math.Numerals.{add-one}
 use Rattle.std.proofs.lemmas.Bool.{eqb-false}
 use Rattle.std.proofs.Math.ListN.{take, drop}
 use Rattle.base_logic.specs.Laws.Choice.{of-cond}
-use Rattle.word_octal.specs.declared.text.Value.{Value}
-use Rattle.word_octal.specs.declared.text.Value.TheVariants.{Of, NotOctal}
 use Rattle.console_line.specs.Form.{word, number, begins, comma, one, two, stint, line_of}
 use Rattle.console_text.specs.Names.{words_is, at_is, word_is, job_is, stint_is}
 use Rattle.console_line.specs.Laws.Text.{begins-is, comma-is}
 use Rattle.console_line.specs.declared.form.Line.{Line}
-use Rattle.console_line.specs.declared.form.Line.TheVariants.{Words, At, Word, Job, Stint, Unreadable}
+use Rattle.console_line.specs.declared.form.Line.TheVariants.{Words, At, Word, Job, Stint}
 
 -- a name and the digits of one value
-pub record OneValue (name : List ℕ) (value : List ℕ → Value) (v : ℕ) (text : List ℕ) : Type 0 where
+pub record OneValue (name : List ℕ) (value : List ℕ → Option ℕ) (v : ℕ) (text : List ℕ) : Type 0 where
   pub digits : List ℕ
   pub is : text ≡ name ++ digits
-  pub has : value digits ≡ Of v
+  pub has : value digits ≡ Some v
 
 -- a stint's name, its job, a comma and its turns
 pub record TwoValues (job turns : ℕ) (text : List ℕ) : Type 0 where
   pub js : List ℕ
   pub ts : List ℕ
   pub is : text ≡ stint_is ++ (js ++ (44 ∷ ts))
-  pub has-job : number js ≡ Of job
-  pub has-turns : number ts ≡ Of turns
+  pub has-job : number js ≡ Some job
+  pub has-turns : number ts ≡ Some turns
 
-abbrev pub Says : List ℕ → Line → Type 0
-Says text (Words v) = OneValue words_is number v text
-Says text (At v) = OneValue at_is number v text
-Says text (Word v) = OneValue word_is word v text
-Says text (Job v) = OneValue job_is number v text
-Says text (Stint job turns) = TwoValues job turns text
-Says text Unreadable = Unit {0}
+abbrev pub Says : List ℕ → Option Line → Type 0
+Says text (Some (Words v)) = OneValue words_is number v text
+Says text (Some (At v)) = OneValue at_is number v text
+Says text (Some (Word v)) = OneValue word_is word v text
+Says text (Some (Job v)) = OneValue job_is number v text
+Says text (Some (Stint job turns)) = TwoValues job turns text
+Says text None = Unit {0}
 
 module _ (text : List ℕ) where
-  says-one : (f : ℕ → Line) (r : Value) → ((v : ℕ) → r ≡ Of v → Says text (f v)) → Says text (one f r)
-  says-one f (Of v) says = says v refl
-  says-one f NotOctal says = tt
+  says-one : (f : ℕ → Line) (r : Option ℕ) → ((v : ℕ) → r ≡ Some v → Says text (Some (f v))) → Says text (one f r)
+  says-one f (Some v) says = says v refl
+  says-one f None says = tt
 
-  says_two : (job turns : Value) → ((j t : ℕ) → job ≡ Of j → turns ≡ Of t → TwoValues j t text) → Says text (two job turns)
-  says_two (Of j) (Of t) says = says j t refl refl
-  says_two (Of j) NotOctal says = tt
-  says_two NotOctal turns says = tt
+  says_two : (job turns : Option ℕ) → ((j t : ℕ) → job ≡ Some j → turns ≡ Some t → TwoValues j t text) → Says text (two job turns)
+  says_two (Some j) (Some t) says = says j t refl refl
+  says_two (Some j) None says = tt
+  says_two None turns says = tt
 
   says-stint : (rest : List ℕ) → text ≡ stint_is ++ rest → Says text (stint rest)
   unfolding stint
@@ -60,8 +58,8 @@ module _ (text : List ℕ) where
         has-turns = turns;
       }))
 
-  one_value : (name : List ℕ) (value : List ℕ → Value) → begins name text ≡ true
-      → (v : ℕ) → value (drop (length name) text) ≡ Of v → OneValue name value v text
+  one_value : (name : List ℕ) (value : List ℕ → Option ℕ) → begins name text ≡ true
+      → (v : ℕ) → value (drop (length name) text) ≡ Some v → OneValue name value v text
   one_value name value b v e = record { digits = drop (length name) text; is = begins-is name text b; has = e }
 
   pub line-says : Says text (line_of text)

@@ -1,4 +1,5 @@
 -- What bytes do to a reader, and to what it holds of the input.
+use Rattle.std.specs.Prelude.{Option, Some, None}
 use Rattle.std.specs.Prelude.{Bool, List, [], ◌∷◌, ◌++◌, ◌≡◌, ℕ, zero, suc, ◌+◌, ◌≤◌, ◌<◌, ltb, length, take, drop, get_or}
 use Rattle.std.proofs.Math.Bool.{true, false}
 use Rattle.std.proofs.Math.Path.{refl}
@@ -59,12 +60,12 @@ module _ {bytes : List ℕ} {r₀ : Reader} {m₀ : List ℕ} {l₀ : Lists} {at
         }
 
     -- the line was filled to its line feed, and read
-    pub feeding-line : {m' : List ℕ} {l' : Lists} {p : Progress} {said : Line} → f.at < length bytes → said ≡ line_of (take f.length line)
+    pub feeding-line : {m' : List ℕ} {l' : Lists} {p : Progress} {said : Option Line} → f.at < length bytes → said ≡ line_of (take f.length line)
         → Applied said r.progress m l p m' l' → FeedingOn bytes r₀ m₀ l₀ (f.at + 1) (with_line p line 0) m' l'
     feeding-line {m'} {l'} {p} {said} h e a =
         let text = line_of (take f.length line) in
         let read : input_store p m' l' ≡ store_line (input_store r.progress m l) text =
-        a.is ∙ ap (λ (x : Line). store_line (input_store r.progress m l) x) e in
+        a.is ∙ ap (λ (x : Option Line). store_line (input_store r.progress m l) x) e in
         record {
           is =
               ap (λ (s : InputStore). bytes_fed (after_line line s) (drop (f.at + 1) bytes)) read
@@ -78,6 +79,9 @@ module _ {bytes : List ℕ} {r₀ : Reader} {m₀ : List ℕ} {l₀ : Lists} {at
   pub feeding-end : length bytes ≤ at → reader_state r m l ≡ bytes_fed (reader_state r₀ m₀ l₀) bytes
   unfolding bytes_fed
   feeding-end h = rw (← g.is, drop_of_length-le bytes h)
+
+-- these, for the check to find
+pub ruleset feeding_steps = (feeding-start, feeding-end)
 
 -- ---- what a reader holds
 
@@ -107,7 +111,7 @@ module _ (s : ReaderState) (byte : ℕ) (k : ReadyIn s) where
   abbrev r : Reader
   r = s.reader
 
-  abbrev line : Line
+  abbrev line : Option Line
   line = line_of (take r.length r.line)
 
   byte-held : ByteHeld (held_in s) byte (byte_fed s byte)

@@ -1,10 +1,11 @@
 -- Byte by byte, with lines and lists cut, a reader comes to the reading of the lines.
+use Rattle.std.specs.Prelude.{Option, Some, None}
 use Rattle.std.specs.Prelude.{Bool, true, false, ◌&&◌, cond, List, [], ◌∷◌, ◌++◌, ◌≡◌, refl, ℕ, zero, suc, ◌+◌, eqb, leb, ltb, length, take, set}
 use Rattle.std.proofs.Common.{ap, ◌∙◌, arith, take-take}
 use Rattle.console_line.specs.Form.{line_of}
 use Rattle.console_line.specs.Laws.Long.{cut}
 use Rattle.console_line.specs.declared.form.Line.{Line}
-use Rattle.console_line.specs.declared.form.Line.TheVariants.{Words, At, Word, Job, Stint, Unreadable}
+use Rattle.console_line.specs.declared.form.Line.TheVariants.{Words, At, Word, Job, Stint}
 use Rattle.console_grammar.specs.Lines.{Lines, lines_after, lines_of}
 use Rattle.console_grammar.specs.Reading.{Request, request, Part, after_words, in_block, in_jobs, in_stints, Reading, no_line, readable, unreadable, at_to, word_to, job_to, with_job, line_to, all_to, ended, reading_of}
 use Rattle.console_grammar.specs.Held.{firsts, keep, job_entries, stint_entries}
@@ -66,16 +67,16 @@ keep-job in_jobs q a = job-firsts q a
 keep-job in_stints q a = refl
 
 -- a line after what was kept does what it does after all
-pub keep-line : (x : Reading) (line : Line) → keep (line_to (keep x) line) ≡ keep (line_to x line)
+pub keep-line : (x : Reading) (line : Option Line) → keep (line_to (keep x) line) ≡ keep (line_to x line)
 unfolding line_to
 keep-line no_line line = refl
-keep-line (readable part q) (Words n) = refl
-keep-line (readable part q) (At a) = keep_at part q a
-keep-line (readable part q) (Word w) = keep_word part q w
-keep-line (readable part q) (Job a) = keep-job part q a
-keep-line (readable part q) (Stint job turns) =
+keep-line (readable part q) (Some (Words n)) = refl
+keep-line (readable part q) (Some (At a)) = keep_at part q a
+keep-line (readable part q) (Some (Word w)) = keep_word part q w
+keep-line (readable part q) (Some (Job a)) = keep-job part q a
+keep-line (readable part q) (Some (Stint job turns)) =
     rw (take_twice job_entries q.jobs, cut-more stint_entries q.stint_jobs (job ∷ []), cut-more stint_entries q.stint_turns (turns ∷ []))
-keep-line (readable part q) Unreadable = refl
+keep-line (readable part q) None = refl
 keep-line unreadable line = refl
 
 -- what the lines say, kept

@@ -1,9 +1,8 @@
 -- Numbers 1, 5 and 6: what they refuse, and what they let by.
-use Rattle.std.specs.Prelude.{true, List, ◌≡◌, ℕ, eqb, leb, length}
+use Rattle.std.specs.Prelude.{true, List, ◌≡◌, ℕ, eqb, leb, length, Ok}
 use Rattle.std.proofs.Common.{eq-eqb, le-leb, eqb-true, leb-true}
 use Rattle.base_logic.specs.Laws.Tests.{both}
 use Rattle.base_outcome.specs.Laws.Verdict.{both-accept, by-test}
-use Rattle.base_outcome.specs.declared.refusal.Verdict.TheVariants as Call
 use Rattle.console_grammar.specs.Held.{Lists, Room, job_entries, stint_entries}
 use Rattle.console_reader.specs.Fed.{ReaderReady}
 use Rattle.console_reader.specs.Reader.{lists_long, reader_fits, reader_verdict}
@@ -20,12 +19,12 @@ room-by-tests m l e f =
       stint_turns = eqb-true (length l.stint_turns) stint_entries f₂.1;
     }
 
-pub accepted-memory : (r : Reader) (m : List ℕ) (l : Lists) → reader_verdict r m l ≡ Call.Accepted → length m ≡ 4096
+pub accepted-memory : (r : Reader) (m : List ℕ) (l : Lists) → reader_verdict r m l ≡ Ok tt → length m ≡ 4096
 unfolding reader_verdict
 accepted-memory r m l e = eqb-true (length m) 4096 (by-test (eqb (length m) 4096) _ _ (both-accept _ _ e).0).0
 
 -- what no number refuses may be read
-pub accepted-reader : (r : Reader) (m : List ℕ) (l : Lists) → reader_verdict r m l ≡ Call.Accepted → length r.line ≡ 32 → ReaderReady r m l
+pub accepted-reader : (r : Reader) (m : List ℕ) (l : Lists) → reader_verdict r m l ≡ Ok tt → length r.line ≡ 32 → ReaderReady r m l
 unfolding reader_verdict
 accepted-reader r m l e long =
     let p = r.progress in
@@ -47,7 +46,7 @@ accepted-reader r m l e long =
     }
 
 -- and a reader with its room is not refused
-pub ready-accepted : (r : Reader) (m : List ℕ) (l : Lists) → ReaderReady r m l → reader_verdict r m l ≡ Call.Accepted
+pub ready-accepted : (r : Reader) (m : List ℕ) (l : Lists) → ReaderReady r m l → reader_verdict r m l ≡ Ok tt
 unfolding reader_verdict
 ready-accepted r m l k =
     rw (

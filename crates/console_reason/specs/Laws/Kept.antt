@@ -1,14 +1,13 @@
 -- Of lists that are too long the first job or stint past the limit is at fault, so the entries that a reader keeps name the same one as all.
-use Rattle.std.specs.Prelude.{Bool, true, false, List, [], ◌∷◌, ◌≡◌, refl, ℕ, suc, eqb, ltb, length, take}
+use Rattle.std.specs.Prelude.{Option, None, Bool, true, false, List, [], ◌∷◌, ◌≡◌, refl, ℕ, suc, eqb, ltb, length, take}
 use Rattle.std.proofs.Common.{⊎_elim, ap, arith, ne_eqb, lt-ltb, take_all, length-take-le}
 use Rattle.base_logic.specs.Laws.Choice.{of-cond, le-or-lt}
-use Rattle.base_outcome.specs.declared.refusal.Verdict.{Verdict}
+use Rattle.base_outcome.specs.Verdict.{Verdict}
 use Rattle.central_record.specs.Record.{length_fits, words_fit, record_fits, host_verdict}
 use Rattle.console_calls.specs.Console.{zero_record, schedule_in}
 use Rattle.console_calls.specs.Laws.Kept.{fit, firsts-fit, fits-firsts, refused_by, unfit}
 use Rattle.console_grammar.specs.Held.{firsts, keep, job_entries, stint_entries}
 use Rattle.console_grammar.specs.Reading.{Request, Reading, no_line, readable, unreadable}
-use Rattle.console_unreadable.specs.declared.tracker.Found.TheVariants.{Nothing}
 use Rattle.shared_fault.specs.Fault.{length_fault, fault_of, finding_to, finding_of}
 use Rattle.shared_fault.specs.declared.fault.Fault.{Fault}
 use Rattle.shared_limits.specs.Limits.{most_jobs, most_stints}
@@ -50,14 +49,14 @@ unfit-kept : (q : Request) → fit q ≡ false → fit (firsts q) ≡ false → 
 unfolding finding_of
 unfit-kept q e f =
     let v = refused_by (host_verdict q.memory zero_record) in
-    rw (unfit q e, unfit (firsts q) f) (ap (λ (x : Fault). finding_to v x) (fault-kept q))
+    rw (unfit q e, unfit (firsts q) f) (ap (λ (x : Option Fault). finding_to v x) (fault-kept q))
 
 finding-kept : (q : Request) (t u : Bool) → fit q ≡ t → fit (firsts q) ≡ u → finding_of (schedule_in (firsts q)) ≡ finding_of (schedule_in q)
 finding-kept q true u e f = ap (λ (r : Request). finding_of (schedule_in r)) (fits-firsts q e)
 finding-kept q false true e f = ap (λ (r : Request). finding_of (schedule_in r)) (firsts-fit q f)
 finding-kept q false false e f = unfit-kept q e f
 
-pub reason_kept : (x : Reading) → reason_on Nothing (keep x) ≡ reason_on Nothing x
+pub reason_kept : (x : Reading) → reason_on None (keep x) ≡ reason_on None x
 reason_kept no_line = refl
 reason_kept (readable part q) = ap finding_text (finding-kept q (fit q) (fit (firsts q)) refl refl)
 reason_kept unreadable = refl

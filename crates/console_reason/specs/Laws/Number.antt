@@ -1,20 +1,17 @@
 -- A reason begins with the number that the console answers with.
 use Rattle.std.proofs.lemmas.Bool.{false≢true}
-use Rattle.std.specs.Prelude.{List, ◌++◌, ◌≡◌, refl, ℕ}
+use Rattle.std.specs.Prelude.{Some, None, List, ◌++◌, ◌≡◌, refl, ℕ, Ok, Err}
 use Rattle.std.proofs.Common.{append-nil, sym, ap, ◌∙◌, arith}
 use Rattle.base_outcome.proofs.Numbers.{verdicts-distinct}
 use Rattle.base_outcome.specs.Numbers.{refusal_number, verdict_number}
 use Rattle.base_outcome.specs.declared.refusal.Refusal.TheVariants as Refusal
-use Rattle.base_outcome.specs.declared.refusal.Verdict.{Verdict}
-use Rattle.base_outcome.specs.declared.refusal.Verdict.TheVariants as Call
+use Rattle.base_outcome.specs.Verdict.{Verdict}
 use Rattle.console_answer.specs.Text.{refused_text}
 use Rattle.console_calls.specs.Console.{schedule_in, printed, output_on, output_of}
 use Rattle.console_grammar.specs.Reading.{Reading, no_line, readable, unreadable, reading_of}
 use Rattle.console_reader.specs.Laws.BytesRead.{is_readable}
 use Rattle.console_unreadable.specs.Laws.Exact.{is_nothing, found-exact}
-use Rattle.console_unreadable.specs.Unreadable.{unreadable_in}
-use Rattle.console_unreadable.specs.declared.tracker.Found.{Found}
-use Rattle.console_unreadable.specs.declared.tracker.Found.TheVariants.{Nothing, Line}
+use Rattle.console_unreadable.specs.Unreadable.{Found, unreadable_in}
 use Rattle.shared_fault.specs.Fault.{finding_of}
 use Rattle.shared_fault.proofs.Findings.{accepted-names-nobody}
 use Rattle.shared_schedule.specs.Refusals.{schedule_verdict}
@@ -34,12 +31,12 @@ pub record Begins (first all : List ℕ) : Type 0 where
 
 begins-on : (f : Found) (x : Reading) → is_nothing f ≡ is_readable x → Begins (refused_text (number_on x)) (reason_on f x)
 unfolding unreadable_text finding_text finding_of
-begins-on (Line n rule) no_line e = record { rest = _; is = refl }
-begins-on (Line n rule) unreadable e = record { rest = _; is = refl }
-begins-on (Line n rule) (readable part q) e = absurd (false≢true e)
-begins-on Nothing no_line e = absurd (false≢true (sym e))
-begins-on Nothing unreadable e = absurd (false≢true (sym e))
-begins-on Nothing (readable part q) e = record { rest = _; is = refl }
+begins-on (Some line) no_line e = record { rest = _; is = refl }
+begins-on (Some line) unreadable e = record { rest = _; is = refl }
+begins-on (Some line) (readable part q) e = absurd (false≢true e)
+begins-on None no_line e = absurd (false≢true (sym e))
+begins-on None unreadable e = absurd (false≢true (sym e))
+begins-on None (readable part q) e = record { rest = _; is = refl }
 
 -- of every input
 pub reason-begins : (bytes : List ℕ) → Begins (refused_text (number_on (reading_of bytes))) (reason_of bytes)
@@ -47,8 +44,8 @@ unfolding reason_of
 reason-begins bytes = begins-on (unreadable_in bytes) (reading_of bytes) (found-exact bytes)
 
 printed-number : (v : Verdict) (s : Schedule) → (verdict_number v ≡ 0 → ⊥) → printed v s ≡ refused_text (verdict_number v)
-printed-number Call.Accepted s h = absurd (h refl)
-printed-number (Call.Refused r) s h = refl
+printed-number (Ok _) s h = absurd (h refl)
+printed-number (Err r) s h = refl
 
 answer-on : (x : Reading) → (number_on x ≡ 0 → ⊥) → output_on x ≡ refused_text (number_on x)
 unfolding output_on
@@ -66,9 +63,9 @@ accepted-on : (f : Found) (x : Reading) → is_nothing f ≡ is_readable x → n
 unfolding finding_text
 accepted-on f no_line e h = absurd (omega (arith, h))
 accepted-on f unreadable e h = absurd (omega (arith, h))
-accepted-on (Line n rule) (readable part q) e h = absurd (false≢true e)
-accepted-on Nothing (readable part q) e h =
-    let nobody = accepted-names-nobody (schedule_in q) (verdicts-distinct (schedule_verdict (schedule_in q)) Call.Accepted h) in
+accepted-on (Some line) (readable part q) e h = absurd (false≢true e)
+accepted-on None (readable part q) e h =
+    let nobody = accepted-names-nobody (schedule_in q) (verdicts-distinct (schedule_verdict (schedule_in q)) (Ok tt) h) in
     ap finding_text nobody ∙ append-nil (refused_text 0)
 
 pub reason-accepted : (bytes : List ℕ) → number_on (reading_of bytes) ≡ 0 → reason_of bytes ≡ refused_text 0

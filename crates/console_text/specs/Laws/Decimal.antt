@@ -72,8 +72,8 @@ length_before (suc n) v text =
     let h = length_before n (v / 10) ((48 + v % 10) ∷ text) in
     of-cond (λ (l : List ℕ). length l ≤ suc n + length text) (eqb (v / 10) 0) (λ e. omega arith) (λ e. omega (arith, h))
 
-pub length-decimal : (n v : ℕ) → length (decimal_in n v) ≤ n
-length-decimal n v = omega (arith, length_before n v [])
+pub length_decimal : (n v : ℕ) → length (decimal_in n v) ≤ n
+length_decimal n v = omega (arith, length_before n v [])
 
 -- ---- the loop of `decimal_digits`: before the digits that stand in the buffer from `at` on come those of `rest`
 pub record DecimalLeft (n v : ℕ) (buffer : List ℕ) (at rest : ℕ) : Type 0 where

@@ -1,5 +1,5 @@
 -- What a tracker holds of an input: the reading, as a reader does, the number of the line, and what was found.
-use Rattle.std.specs.Prelude.{Bool, not, cond, List, [], ◌∷◌, ◌≡◌, ℕ, ◌+◌, length}
+use Rattle.std.specs.Prelude.{Some, None, Bool, not, cond, List, [], ◌∷◌, ◌≡◌, ℕ, ◌+◌, length}
 use Rattle.std.proofs.Math.Bool.{true, false}
 use Rattle.std.proofs.Math.Path.{refl}
 use Rattle.std.proofs.Common.{ap, ◌∙◌}
@@ -14,11 +14,9 @@ use Rattle.console_reader.specs.Laws.BytesRead.{Feeding, feeding, feed_to, feed_
 use Rattle.console_reader.specs.Laws.Feeding.{bytes-held}
 use Rattle.console_reader.specs.Reader.{ReaderState, byte_fed, bytes_fed}
 use Rattle.console_unreadable.specs.Rule.{rule_of}
-use Rattle.console_unreadable.specs.Unreadable.{last_part, here_or_later}
+use Rattle.console_unreadable.specs.Unreadable.{Found, line_at, last_part, here_or_later}
 use Rattle.console_unreadable.specs.Tracker.{TrackerState, reader_in, is_unreadable, line_ended, byte_followed, byte_by, byte_tracked, bytes_tracked, TrackerReady}
 use Rattle.console_unreadable.specs.Laws.Tracker.{ready-byte}
-use Rattle.console_unreadable.specs.declared.tracker.Found.{Found}
-use Rattle.console_unreadable.specs.declared.tracker.Found.TheVariants.{Nothing, Line}
 use Rattle.console_unreadable.specs.Laws.Exact.{goes_on}
 
 pub record Tracking : Type 0 where
@@ -32,14 +30,14 @@ tracking f n found = record { fed = f; line = n; found = found }
 -- the line that has begun was read
 abbrev pub line_read : Feeding → ℕ → Reading → Tracking
 line_read f n x =
-    tracking (feeding [] x) (cond (goes_on x) (n + 1) n) (here_or_later x (Line n (rule_of (last_part f.reading) (line_of f.line))) Nothing)
+    tracking (feeding [] x) (cond (goes_on x) (n + 1) n) (here_or_later x (Some (line_at n (rule_of (last_part f.reading) (line_of f.line)))) None)
 
 abbrev pub read_to : Feeding → Reading
 read_to f = keep (line_to f.reading (line_of f.line))
 
 abbrev pub track_to : Feeding → ℕ → Found → ℕ → Tracking
-track_to f n Nothing byte = cond (eqb byte 10) (line_read f n (read_to f)) (tracking (feed_to f byte) n Nothing)
-track_to f n (Line i rule) byte = tracking f n (Line i rule)
+track_to f n None byte = cond (eqb byte 10) (line_read f n (read_to f)) (tracking (feed_to f byte) n None)
+track_to f n (Some line) byte = tracking f n (Some line)
 
 unfoldable pub track_all : Tracking → List ℕ → Tracking
 track_all t [] = t
@@ -73,11 +71,11 @@ module _ (before after : ReaderState) (n : ℕ) where
   ended_by x e = unreadable-held after.reader.progress.part _ ∙ ap (λ (f : Feeding). not (goes_on f.reading)) e
 
   line-held : (x : Reading) → held_reader after ≡ feeding [] x → held_in (line_ended before after n) ≡ line_read (held_reader before) n x
-  line-held no_line e = rw (ended_by no_line e) (ap (λ (f : Feeding). tracking f (n + 1) Nothing) e)
-  line-held (readable part q) e = rw (ended_by (readable part q) e) (ap (λ (f : Feeding). tracking f (n + 1) Nothing) e)
+  line-held no_line e = rw (ended_by no_line e) (ap (λ (f : Feeding). tracking f (n + 1) None) e)
+  line-held (readable part q) e = rw (ended_by (readable part q) e) (ap (λ (f : Feeding). tracking f (n + 1) None) e)
   line-held unreadable e =
       rw (ended_by unreadable e, last-held before.reader.progress.part _)
-      (ap (λ (f : Feeding). tracking f n (Line n (rule_of before.reader.progress.part (line_of (held_reader before).line)))) e)
+      (ap (λ (f : Feeding). tracking f n (Some (line_at n (rule_of before.reader.progress.part (line_of (held_reader before).line))))) e)
 
 -- a byte does to what a tracker holds what it does to the tracker
 module _ (s : TrackerState) (k : ReaderReady s.tracker.reader s.memory s.lists) (byte : ℕ) where
@@ -89,17 +87,17 @@ module _ (s : TrackerState) (k : ReaderReady s.tracker.reader s.memory s.lists) 
   unfolding bytes_fed feed_all
   fed-held b = (bytes-held reader (b ∷ []) k).is
 
-  followed-held : held_in (byte_followed reader s.tracker.line byte) ≡ track_to (held_reader reader) s.tracker.line Nothing byte
+  followed-held : held_in (byte_followed reader s.tracker.line byte) ≡ track_to (held_reader reader) s.tracker.line None byte
   unfolding byte_followed feed_to
   followed-held = by-test (eqb byte 10) refl
     where
-      by-test : (t : Bool) → eqb byte 10 ≡ t → held_in (byte_followed reader s.tracker.line byte) ≡ track_to (held_reader reader) s.tracker.line Nothing byte
+      by-test : (t : Bool) → eqb byte 10 ≡ t → held_in (byte_followed reader s.tracker.line byte) ≡ track_to (held_reader reader) s.tracker.line None byte
       by-test true e = rw e (line-held reader (byte_fed reader 10) s.tracker.line (read_to (held_reader reader)) (fed-held 10))
-      by-test false e = rw e (ap (λ (f : Feeding). tracking f s.tracker.line Nothing) (fed-held byte ∙ rw e))
+      by-test false e = rw e (ap (λ (f : Feeding). tracking f s.tracker.line None) (fed-held byte ∙ rw e))
 
   byte-held : (f : Found) → s.tracker.found ≡ f → held_in (byte_by f s byte) ≡ track_to (held_reader reader) s.tracker.line f byte
-  byte-held Nothing e = followed-held
-  byte-held (Line i rule) e = ap (λ (found : Found). tracking (held_reader reader) s.tracker.line found) e
+  byte-held None e = followed-held
+  byte-held (Some line) e = ap (λ (found : Found). tracking (held_reader reader) s.tracker.line found) e
 
 -- all bytes
 pub bytes-tracked : (bytes : List ℕ) (s : TrackerState) → TrackerReady s.tracker s.memory s.lists (length bytes)

@@ -1,5 +1,6 @@
 -- What the functions of a tracker leave, as their proofs use it.
-use Rattle.std.specs.Prelude.{true, false, List, [], ◌∷◌, ◌≡◌, refl, eqb, ltb, drop}
+use Rattle.std.specs.Prelude.{Option, Some, None}
+use Rattle.std.specs.Prelude.{Some, None, true, false, List, [], ◌∷◌, ◌≡◌, refl, eqb, ltb, drop, Ok}
 use Rattle.std.proofs.Common.{sym, ◌∙◌, add-one, drop-cons}
 use Rattle.std.proofs.Math.Path.{ap, subst}
 use Prim.Native.Nat.{ℕ, suc, ◌+◌, ◌-◌, ◌^◌, ◌≤◌, ◌<◌}
@@ -7,7 +8,6 @@ use native.Mathlib.Omega.{arith}
 use borrow.Author.Tests.{eq-eqb, ne_eqb, lt-ltb, le-ltb, ltb-true}
 use Rattle.std.proofs.Math.ListN.{length, get_or, drop_of_length-le}
 use Rattle.base_outcome.specs.Laws.Verdict.{both-accept, by-test}
-use Rattle.base_outcome.specs.declared.refusal.Verdict.TheVariants as Call
 use Rattle.base_logic.specs.Laws.Choice.{of-cond}
 use Rattle.console_line.specs.Form.{line_of}
 use Rattle.console_line.specs.declared.form.Line.{Line}
@@ -20,8 +20,7 @@ use Rattle.console_reader.specs.declared.reader.Reader.{Reader}
 use Rattle.console_unreadable.specs.Rule.{rule_of}
 use Rattle.console_unreadable.specs.Tracker.{TrackerState, tracker_state, tracker_at, reader_in, is_unreadable, begun_in, line_ended, byte_followed, byte_by, byte_tracked, bytes_tracked, tracker_verdict, TrackerReady}
 use Rattle.console_unreadable.specs.declared.rule.Rule.{Rule}
-use Rattle.console_unreadable.specs.declared.tracker.Found.{Found}
-use Rattle.console_unreadable.specs.declared.tracker.Found.TheVariants as Find
+use Rattle.console_unreadable.specs.Unreadable.{Found, line_at}
 use Rattle.console_unreadable.specs.declared.tracker.Tracker.{Tracker}
 
 -- ---- one byte
@@ -33,18 +32,18 @@ module _ {r' : Reader} {m' : List ℕ} {l' : Lists} (s : ReaderState) (n : ℕ) 
     unfolding bytes_fed
     ended_by e = e ∙ ap (λ (after : ReaderState). line_ended s after n) fed
 
-    pub line-found : {said : Line} {rule : Rule} → said ≡ line_of (begun_in s) → rule ≡ rule_of s.reader.progress.part said
+    pub line-found : {said : Option Line} {rule : Rule} → said ≡ line_of (begun_in s) → rule ≡ rule_of s.reader.progress.part said
         → is_unreadable r'.progress.part ≡ true
-        → tracker_at (reader_state r' m' l') n (Find.Line n rule) ≡ line_ended s (byte_fed s 10) n
+        → tracker_at (reader_state r' m' l') n (Some (line_at n rule)) ≡ line_ended s (byte_fed s 10) n
     line-found e f test = ended_by (rw (test, f, e))
 
-    pub line-passed : is_unreadable r'.progress.part ≡ false → tracker_at (reader_state r' m' l') (n + 1) Find.Nothing ≡ line_ended s (byte_fed s 10) n
+    pub line-passed : is_unreadable r'.progress.part ≡ false → tracker_at (reader_state r' m' l') (n + 1) None ≡ line_ended s (byte_fed s 10) n
     line-passed test = ended_by (rw test)
 
   pub followed-byte : (byte : ℕ) → (byte ≡ 10 → ⊥) → reader_state r' m' l' ≡ bytes_fed s (byte ∷ [])
-      → tracker_at (reader_state r' m' l') n Find.Nothing ≡ byte_followed s n byte
+      → tracker_at (reader_state r' m' l') n None ≡ byte_followed s n byte
   unfolding byte_followed bytes_fed
-  followed-byte byte e fed = rw (ne_eqb byte 10 e) (ap (λ (after : ReaderState). tracker_at after n Find.Nothing) fed)
+  followed-byte byte e fed = rw (ne_eqb byte 10 e) (ap (λ (after : ReaderState). tracker_at after n None) fed)
 
 pub followed-line-feed : {x : TrackerState} (s : ReaderState) (n byte : ℕ) → byte ≡ 10 → x ≡ line_ended s (byte_fed s 10) n → x ≡ byte_followed s n byte
 unfolding byte_followed
@@ -74,8 +73,8 @@ ready-followed s line byte n k h =
 
 pub ready-byte : (f : Found) (s : TrackerState) (byte n : ℕ) → TrackerReady s.tracker s.memory s.lists (suc n)
     → TrackerReady (byte_by f s byte).tracker (byte_by f s byte).memory (byte_by f s byte).lists n
-ready-byte Find.Nothing s byte n k = ready-followed (reader_in s) s.tracker.line byte n k.reader k.lines
-ready-byte (Find.Line i rule) s byte n k = record { reader = k.reader; lines = omega (arith, k.lines) }
+ready-byte None s byte n k = ready-followed (reader_in s) s.tracker.line byte n k.reader k.lines
+ready-byte (Some line) s byte n k = record { reader = k.reader; lines = omega (arith, k.lines) }
 
 -- to read on from a place gives what all bytes give
 pub record TrackingOn (bytes : List ℕ) (s₀ : TrackerState) (at : ℕ) (t : Tracker) (m : List ℕ) (l : Lists) : Type 0 where
@@ -107,6 +106,9 @@ module _ {bytes : List ℕ} {s₀ : TrackerState} {at : ℕ} {t : Tracker} {m : 
   unfolding bytes_tracked
   tracking-end h = rw (← g.is, drop_of_length-le bytes h)
 
+-- these, for the check to find
+pub ruleset tracking_steps = (tracking-start, tracking-ready, tracking-end)
+
 -- ---- the verdict
 
 -- bytes that the number of the line has room for, as the code tests it
@@ -117,7 +119,7 @@ pub no-room-for-lines : (line n : ℕ) → 0xffffffffffffffff - line < n → ltb
 no-room-for-lines line n h = le-ltb (line + n) (2 ^ 64) (omega (arith, h))
 
 module _ (t : Tracker) (m : List ℕ) (l : Lists) (bytes : List ℕ) where
-  pub accepted-tracker : tracker_verdict t m l bytes ≡ Call.Accepted → length t.reader.line ≡ 32 → TrackerReady t m l (length bytes)
+  pub accepted-tracker : tracker_verdict t m l bytes ≡ Ok tt → length t.reader.line ≡ 32 → TrackerReady t m l (length bytes)
   unfolding tracker_verdict
   accepted-tracker e long =
       let both = both-accept (reader_verdict t.reader m l) _ e in
@@ -127,6 +129,6 @@ module _ (t : Tracker) (m : List ℕ) (l : Lists) (bytes : List ℕ) where
       }
 
   -- and a tracker with its room is not refused
-  pub tracker-accepted : TrackerReady t m l (length bytes) → tracker_verdict t m l bytes ≡ Call.Accepted
+  pub tracker-accepted : TrackerReady t m l (length bytes) → tracker_verdict t m l bytes ≡ Ok tt
   unfolding tracker_verdict
   tracker-accepted k = rw (ready-accepted t.reader m l k.reader, lt-ltb (t.line + length bytes) (2 ^ 64) k.lines)

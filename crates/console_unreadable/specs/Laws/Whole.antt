@@ -1,5 +1,5 @@
 -- A tracker finds what is to be found in the whole input, and has read all of it where it finds nothing.
-use Rattle.std.specs.Prelude.{Bool, true, false, cond, List, [], ◌∷◌, ◌++◌, ◌≡◌, refl, ℕ, zero, suc, ◌+◌, ◌-◌, ◌^◌, ◌<◌, eqb, length, take}
+use Rattle.std.specs.Prelude.{Some, None, Bool, true, false, cond, List, [], ◌∷◌, ◌++◌, ◌≡◌, refl, ℕ, zero, suc, ◌+◌, ◌-◌, ◌^◌, ◌<◌, eqb, length, take}
 use Rattle.std.proofs.lemmas.Bool.{false≢true}
 use Rattle.std.proofs.Math.Path.{ap}
 use Rattle.std.proofs.Common.{◌∙◌, arith, ne_eqb}
@@ -16,21 +16,20 @@ use Rattle.console_reader.specs.Laws.BytesRead.{Feeding, feeding, feed_to, feed_
 use Rattle.console_reader.specs.Laws.Input.{cut-more, keep-line, feed-input}
 use Rattle.console_reader.specs.Reader.{with_line}
 use Rattle.console_unreadable.specs.Rule.{rule_of}
-use Rattle.console_unreadable.specs.Unreadable.{last_part, here_or_later, first_unreadable, found_at_end, or_found, unreadable_in}
+use Rattle.console_unreadable.specs.Unreadable.{Found, line_at, last_part, here_or_later, first_unreadable, found_at_end, or_found, unreadable_in}
 use Rattle.console_unreadable.specs.Tracker.{TrackerState, reader_in, tracker_state, empty_tracker, byte_tracked, bytes_tracked, end_of_part, end_of_reader, end_by, found_by, TrackerReady}
 use Rattle.console_unreadable.specs.Laws.Tracker.{ready-byte}
 use Rattle.console_unreadable.specs.declared.rule.Rule.{Rule}
-use Rattle.console_unreadable.specs.declared.tracker.Found.{Found}
-use Rattle.console_unreadable.specs.declared.tracker.Found.TheVariants.{Nothing, Line}
+use Rattle.console_unreadable.specs.declared.tracker.UnreadableLine.{UnreadableLine}
 use Rattle.console_unreadable.specs.Laws.Exact.{is_nothing, goes_on}
 use Rattle.console_unreadable.specs.Laws.Held.{Tracking, tracking, track_to, track_all, held_in, held_reader, bytes-tracked}
 
 -- ---- the lines of the bytes
 
-found-stays : (bytes : List ℕ) (f : Feeding) (n i : ℕ) (rule : Rule) → track_all (tracking f n (Line i rule)) bytes ≡ tracking f n (Line i rule)
+found-stays : (bytes : List ℕ) (f : Feeding) (n : ℕ) (line : UnreadableLine) → track_all (tracking f n (Some line)) bytes ≡ tracking f n (Some line)
 unfolding track_all
-found-stays [] f n i rule = refl
-found-stays (byte ∷ bytes) f n i rule = found-stays bytes f n i rule
+found-stays [] f n line = refl
+found-stays (byte ∷ bytes) f n line = found-stays bytes f n line
 
 -- what is found at the end
 abbrev end_found : Tracking → Found
@@ -53,23 +52,23 @@ last-kept unreadable = refl
 -- a line that has ended, and the lines after it, by what the line leaves
 module _ (bytes begun : List ℕ) (x : Reading) (n : ℕ) where
   abbrev here : Found
-  here = Line n (rule_of (last_part x) (line_of begun))
+  here = Some (line_at n (rule_of (last_part x) (line_of begun)))
 
   abbrev ended-line : Reading → Tracking
-  ended-line y = tracking (feeding [] (keep y)) (cond (goes_on (keep y)) (n + 1) n) (here_or_later (keep y) here Nothing)
+  ended-line y = tracking (feeding [] (keep y)) (cond (goes_on (keep y)) (n + 1) n) (here_or_later (keep y) here None)
 
-  line-tracked : (y : Reading) → end_found (track_all (tracking (feeding [] (keep y)) (n + 1) Nothing) bytes) ≡ found_in (n + 1) (lines_after [] bytes) y
+  line-tracked : (y : Reading) → end_found (track_all (tracking (feeding [] (keep y)) (n + 1) None) bytes) ≡ found_in (n + 1) (lines_after [] bytes) y
       → end_found (track_all (ended-line y) bytes)
       ≡ or_found (here_or_later y here (first_unreadable (n + 1) y (lines_after [] bytes).ended))
       (found_at_end (n + 1 + length (lines_after [] bytes).ended) (lines_after [] bytes).rest (all_to y (lines_after [] bytes).ended))
   line-tracked no_line h = h
   line-tracked (readable part q) h = h
-  line-tracked unreadable h = rw (found-stays bytes (feeding [] unreadable) n n (rule_of (last_part x) (line_of begun)))
+  line-tracked unreadable h = rw (found-stays bytes (feeding [] unreadable) n (line_at n (rule_of (last_part x) (line_of begun))))
 
 -- the line feed
 module _ (begun : List ℕ) (byte : ℕ) (e : eqb byte 10 ≡ true) where
   ended-tracked : (bytes : List ℕ) (x : Reading) (n : ℕ)
-      → track_all (tracking (feeding (take 32 begun) (keep x)) n Nothing) (byte ∷ bytes) ≡ track_all (ended-line bytes begun x n (line_to x (line_of begun))) bytes
+      → track_all (tracking (feeding (take 32 begun) (keep x)) n None) (byte ∷ bytes) ≡ track_all (ended-line bytes begun x n (line_to x (line_of begun))) bytes
   unfolding track_all
   ended-tracked bytes x n = ap (λ (t : Tracking). track_all t bytes) (rw (e, cut begun, keep-line x (line_of begun), last-kept x))
 
@@ -84,26 +83,26 @@ module _ (begun : List ℕ) (byte : ℕ) (e : eqb byte 10 ≡ false) where
   plain-fed x = rw (e, cut-more 32 begun (byte ∷ []))
 
   plain-tracked : (bytes : List ℕ) (x : Reading) (n : ℕ)
-      → track_all (tracking (feeding (take 32 begun) x) n Nothing) (byte ∷ bytes)
-      ≡ track_all (tracking (feeding (take 32 (begun ++ (byte ∷ []))) x) n Nothing) bytes
+      → track_all (tracking (feeding (take 32 begun) x) n None) (byte ∷ bytes)
+      ≡ track_all (tracking (feeding (take 32 (begun ++ (byte ∷ []))) x) n None) bytes
   unfolding track_all
-  plain-tracked bytes x n = ap (λ (t : Tracking). track_all t bytes) (rw e (ap (λ (f : Feeding). tracking f n Nothing) (plain-fed x)))
+  plain-tracked bytes x n = ap (λ (t : Tracking). track_all t bytes) (rw e (ap (λ (f : Feeding). tracking f n None) (plain-fed x)))
 
   plain_lines : (bytes : List ℕ) → lines_after (begun ++ (byte ∷ [])) bytes ≡ lines_after begun (byte ∷ bytes)
   unfolding lines_after
   plain_lines bytes = rw e
 
 track-lines : (bytes begun : List ℕ) (x : Reading) (n : ℕ)
-    → end_found (track_all (tracking (feeding (take 32 begun) (keep x)) n Nothing) bytes) ≡ found_in n (lines_after begun bytes) x
+    → end_found (track_all (tracking (feeding (take 32 begun) (keep x)) n None) bytes) ≡ found_in n (lines_after begun bytes) x
 unfolding track_all lines_after first_unreadable all_to
 track-lines [] begun x n = let e : n + 0 ≡ n = omega arith in rw e (end_kept n begun x)
 track-lines (byte ∷ bytes) begun x n =
     by-test (eqb byte 10) refl (track-lines bytes [] (line_to x (line_of begun)) (n + 1)) (track-lines bytes (begun ++ (byte ∷ [])) x n)
   where
     by-test : (t : Bool) → eqb byte 10 ≡ t
-        → end_found (track_all (tracking (feeding [] (keep (line_to x (line_of begun)))) (n + 1) Nothing) bytes) ≡ found_in (n + 1) (lines_after [] bytes) (line_to x (line_of begun))
-        → end_found (track_all (tracking (feeding (take 32 (begun ++ (byte ∷ []))) (keep x)) n Nothing) bytes) ≡ found_in n (lines_after (begun ++ (byte ∷ [])) bytes) x
-        → end_found (track_all (tracking (feeding (take 32 begun) (keep x)) n Nothing) (byte ∷ bytes)) ≡ found_in n (lines_after begun (byte ∷ bytes)) x
+        → end_found (track_all (tracking (feeding [] (keep (line_to x (line_of begun)))) (n + 1) None) bytes) ≡ found_in (n + 1) (lines_after [] bytes) (line_to x (line_of begun))
+        → end_found (track_all (tracking (feeding (take 32 (begun ++ (byte ∷ []))) (keep x)) n None) bytes) ≡ found_in n (lines_after (begun ++ (byte ∷ [])) bytes) x
+        → end_found (track_all (tracking (feeding (take 32 begun) (keep x)) n None) (byte ∷ bytes)) ≡ found_in n (lines_after begun (byte ∷ bytes)) x
     by-test true e h k =
         let more : n + suc (length (lines_after [] bytes).ended) ≡ n + 1 + length (lines_after [] bytes).ended = omega arith in
         ap end_found (ended-tracked begun byte e bytes x n)
@@ -130,10 +129,10 @@ end-of-reader p (byte ∷ line) (suc k) n q long = rw (ne_eqb (suc k) 0 (λ e. o
 
 end-held : (s : TrackerState) (f : Found) → ReaderReady s.tracker.reader s.memory s.lists
     → end_by f s.tracker ≡ or_found f (found_at_end s.tracker.line (held_reader (reader_in s)).line (held_reader (reader_in s)).reading)
-end-held s Nothing k =
+end-held s None k =
     let r = s.tracker.reader in
     end-of-reader r.progress r.line r.length s.tracker.line (in_use r.progress s.memory s.lists) k.long
-end-held s (Line n rule) k = refl
+end-held s (Some line) k = refl
 
 -- a tracker that has read nothing, with its room
 pub empty-tracker-ready : (m : List ℕ) (l : Lists) (n : ℕ) → Room m l → n < 2 ^ 64 - 1 → TrackerReady empty_tracker m l n
@@ -165,15 +164,15 @@ found-whole m l bytes k =
 
 nothing-before : (bytes : List ℕ) (f : Feeding) (n : ℕ) (found : Found) → is_nothing (track_all (tracking f n found) bytes).found ≡ true
     → is_nothing found ≡ true
-nothing-before bytes f n Nothing e = refl
-nothing-before bytes f n (Line i rule) e = rw (found-stays bytes f n i rule) at e
+nothing-before bytes f n None e = refl
+nothing-before bytes f n (Some line) e = rw (found-stays bytes f n line) at e
 
 fed-alike : (f : Feeding) (n : ℕ) (found : Found) (byte : ℕ) → is_nothing found ≡ true → (track_to f n found byte).fed ≡ feed_to f byte
 unfolding feed_to
-fed-alike f n (Line i rule) byte e = absurd (false≢true e)
-fed-alike f n Nothing byte e = by-test (eqb byte 10) refl
+fed-alike f n (Some line) byte e = absurd (false≢true e)
+fed-alike f n None byte e = by-test (eqb byte 10) refl
   where
-    by-test : (t : Bool) → eqb byte 10 ≡ t → (track_to f n Nothing byte).fed ≡ feed_to f byte
+    by-test : (t : Bool) → eqb byte 10 ≡ t → (track_to f n None byte).fed ≡ feed_to f byte
     by-test true t = rw t
     by-test false t = rw t
 
@@ -185,8 +184,8 @@ all-fed (byte ∷ bytes) t e =
     all-fed bytes (track_to t.fed t.line t.found byte) e ∙ ap (λ (f : Feeding). feed_all f bytes) (fed-alike t.fed t.line t.found byte found)
 
 nothing_yet : (f g : Found) → is_nothing (or_found f g) ≡ true → is_nothing f ≡ true
-nothing_yet Nothing g e = refl
-nothing_yet (Line n rule) g e = e
+nothing_yet None g e = refl
+nothing_yet (Some line) g e = e
 
 -- the reading that the tracker's reader holds is that of the input, as much as is kept of it
 pub reading-whole : (m : List ℕ) (l : Lists) (bytes : List ℕ) → TrackerReady empty_tracker m l (length bytes) → is_nothing (unreadable_in bytes) ≡ true

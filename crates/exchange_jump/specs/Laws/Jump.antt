@@ -1,8 +1,7 @@
 -- What an exchange jump keeps, and that a second one undoes it.
-use Rattle.std.specs.Prelude.{true, false, List, ◌≡◌, ℕ, ◌+◌, ◌^◌, ◌≤◌, ◌<◌, length, get_or}
+use Rattle.std.specs.Prelude.{true, false, List, ◌≡◌, ℕ, ◌+◌, ◌^◌, ◌≤◌, ◌<◌, length, get_or, Ok}
 use Rattle.std.proofs.Math.Path.{ap₂}
 use Rattle.std.proofs.Common.{◌∙◌}
-use Rattle.base_outcome.specs.declared.refusal.Verdict.TheVariants as Call
 use Rattle.central_record.specs.declared.record.Central.{Central}
 use Rattle.central_record.specs.Record.{record_fits, words_fit, FitsPackage, host_verdict}
 use Rattle.base_lists.specs.Parts.{part, splice}
@@ -50,7 +49,7 @@ module _ (m : List ℕ) (c : Central) (at : ℕ) (inside : at + 16 ≤ length m)
       (rw (part-splice m at 16 (coded c) inside long) (record-of-coded c w count))
 
 -- the record of an accepted package fits
-module _ (m : List ℕ) (at : ℕ) (words : words_fit m ≡ true) (owner : package_verdict m at ≡ Call.Accepted) where
+module _ (m : List ℕ) (at : ℕ) (words : words_fit m ≡ true) (owner : package_verdict m at ≡ Ok tt) where
   pub record-at-fits : record_fits (length m) (record_at m at) ≡ true
   record-at-fits =
       let r = package-accepted m at owner in
@@ -63,7 +62,7 @@ module _ (m : List ℕ) (at : ℕ) (words : words_fit m ≡ true) (owner : packa
   record-at-fits-package = (fits (length m) (record_at m at) record-at-fits).fits-package
 
 -- the exchange of an accepted record at an accepted package
-module _ (m : List ℕ) (c : Central) (at : ℕ) (host : host_verdict m c ≡ Call.Accepted) (owner : package_verdict m at ≡ Call.Accepted) where
+module _ (m : List ℕ) (c : Central) (at : ℕ) (host : host_verdict m c ≡ Ok tt) (owner : package_verdict m at ≡ Ok tt) where
   fits-package : FitsPackage c
   fits-package = (fits (length m) c (host-accepted m c host).fits).fits-package
 
@@ -77,7 +76,7 @@ module _ (m : List ℕ) (c : Central) (at : ℕ) (host : host_verdict m c ≡ Ca
   exchange-record = record-at-fits m at (host-accepted m c host).words owner
 
   -- what was accepted is accepted after the exchange
-  pub exchange-host-accepted : host_verdict (exchanged m c at).memory (exchanged m c at).central ≡ Call.Accepted
+  pub exchange-host-accepted : host_verdict (exchanged m c at).memory (exchanged m c at).central ≡ Ok tt
   exchange-host-accepted =
       let l = host-accepted m c host in
       let inside = (package-accepted m at owner).inside in
@@ -90,7 +89,7 @@ module _ (m : List ℕ) (c : Central) (at : ℕ) (host : host_verdict m c ≡ Ca
         fits = rw same exchange-record;
       })
 
-  pub exchange-package-accepted : length c.registers ≡ 24 → package_verdict (exchanged m c at).memory at ≡ Call.Accepted
+  pub exchange-package-accepted : length c.registers ≡ 24 → package_verdict (exchanged m c at).memory at ≡ Ok tt
   exchange-package-accepted count =
       let inside = (package-accepted m at owner).inside in
       let same = exchange-length m c at inside in

@@ -1,9 +1,8 @@
 -- What an accepted memory, record and package are.
-use Rattle.std.specs.Prelude.{◌&&◌, List, ◌≡◌, ℕ, ◌+◌, length}
+use Rattle.std.specs.Prelude.{◌&&◌, List, ◌≡◌, ℕ, ◌+◌, length, Ok}
 use borrow.Author.Tests.{leb-true, le-leb, not-true}
 use Rattle.std.proofs.Math.Dec.{leb}
 use Rattle.base_outcome.specs.Laws.Verdict.{by-test}
-use Rattle.base_outcome.specs.declared.refusal.Verdict.TheVariants as Call
 use Rattle.central_record.specs.declared.record.Central.{Central}
 use Rattle.central_record.specs.Record.{record_fits, words_fit, host_verdict}
 use Rattle.base_lists.specs.Parts.{part}
@@ -13,7 +12,7 @@ use Rattle.exchange_jump.specs.Accepted.{HostAccepted, PackageAccepted}
 use Rattle.base_logic.specs.Laws.Tests.{both}
 
 module _ (m : List ℕ) (c : Central) where
-  pub host-accepted : host_verdict m c ≡ Call.Accepted → HostAccepted m c
+  pub host-accepted : host_verdict m c ≡ Ok tt → HostAccepted m c
   unfolding host_verdict
   host-accepted e =
       let t₁ = by-test (leb 1 (length m) && leb (length m) 131072) _ _ e in
@@ -27,12 +26,12 @@ module _ (m : List ℕ) (c : Central) where
         fits = t₅.0;
       }
 
-  pub of-host-accepted : HostAccepted m c → host_verdict m c ≡ Call.Accepted
+  pub of-host-accepted : HostAccepted m c → host_verdict m c ≡ Ok tt
   unfolding host_verdict
   of-host-accepted l = rw (le-leb 1 (length m) l.nonempty, le-leb (length m) 131072 l.at_most, l.words, l.fits)
 
 module _ (m : List ℕ) (at : ℕ) where
-  pub package-accepted : package_verdict m at ≡ Call.Accepted → PackageAccepted m at
+  pub package-accepted : package_verdict m at ≡ Ok tt → PackageAccepted m at
   unfolding package_verdict package_inside package_clean field_inside
   package-accepted e =
       let t₉ = by-test (package_inside m at) _ _ e in
@@ -44,7 +43,7 @@ module _ (m : List ℕ) (at : ℕ) where
         field = leb-true ((record_at m at).ra + (record_at m at).fl) (length m) t₁₁.0;
       }
 
-  pub of-package-accepted : PackageAccepted m at → package_verdict m at ≡ Call.Accepted
+  pub of-package-accepted : PackageAccepted m at → package_verdict m at ≡ Ok tt
   unfolding package_verdict package_inside package_clean field_inside
   of-package-accepted r =
       rw (

@@ -1,5 +1,5 @@
 -- Whole numbers by a sign and a size: zero, sums of one sign, products.
-use Rattle.std.specs.Prelude.{Bool, true, false, not, cond, ◌≡◌, refl, ℕ, zero, suc, ◌+◌, ◌*◌, ℤ, pos, ◌+ℤ◌, ◌*ℤ◌}
+use Rattle.std.specs.Prelude.{Bool, true, false, not, cond, ◌≡◌, refl, ℕ, zero, suc, ◌+◌, ◌*◌, pos, ◌+ℤ◌, ◌*ℤ◌}
 use Rattle.std.proofs.Common.{sym, zero-mul, mul-zero}
 use Rattle.std.proofs.Math.IntN.{neg_ℤ-+ℤ}
 use Rattle.floating_product.specs.Rebuilt.{whole_with}

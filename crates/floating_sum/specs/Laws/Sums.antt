@@ -1,5 +1,5 @@
 -- Sums of signed sizes, by their signs; widths; operands exchanged and complemented.
-use Rattle.std.specs.Prelude.{Bool, true, not, cond, ◌&&◌, ◌||◌, ◌≡◌, refl, ℕ, zero, suc, ◌+◌, ◌-◌, ◌*◌, ◌/◌, ◌%◌, ◌^◌, ◌≤◌, ◌<◌, max, ltb, eqb, ℤ, pos, neg_ℤ, ◌+ℤ◌, ◌-ℤ◌}
+use Rattle.std.specs.Prelude.{Bool, true, not, cond, ◌&&◌, ◌||◌, ◌≡◌, refl, ℕ, zero, suc, ◌+◌, ◌-◌, ◌/◌, ◌%◌, ◌^◌, ◌≤◌, ◌<◌, max, ltb, eqb, ℤ, pos, neg_ℤ, ◌+ℤ◌, ◌-ℤ◌}
 use Rattle.std.proofs.Math.Bool.{false, and_comm, or_comm}
 use Rattle.std.proofs.Common.{⊎_elim, sym, ap₂, ◌∙◌, subst, sub-add_cancel, le_of_lt, arith, ltb-true, eq-eqb, lit<}
 use Rattle.std.proofs.Math.Path.{ap}

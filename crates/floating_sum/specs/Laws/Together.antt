@@ -10,7 +10,8 @@ use Rattle.floating_word.specs.Widths.{NumberFits}
 use Rattle.floating_word.specs.Laws.Special.{infinite-complement, indefinite-complement}
 use Rattle.floating_word.specs.Laws.Number.{number_fits, word_lt, within-not-infinite, within-not-indefinite, within-number}
 use Rattle.floating_sum.specs.Sums.{Coefficient, coefficient, aligned, whole_of, from_whole, minus_zero, added_of, moved_of, finite_sum, half_of, sum_word, addend, floating_sum}
-use Rattle.floating_sum.specs.Together.{FiniteWord, WithinLimits, whole_sum, whole_half, whole_moved, Together}
+use Rattle.floating_word.specs.Finite.{FiniteWord}
+use Rattle.floating_sum.specs.Together.{WithinLimits, whole_sum, whole_half, whole_moved, Together}
 use Rattle.floating_sum.specs.Laws.Sums.{finite-sum-lt}
 use Rattle.floating_word.specs.declared.number.Number.{Number}
 

@@ -1,10 +1,8 @@
 -- A channel whose word has 12 bits keeps that through the codes.
-use Rattle.std.specs.Prelude.{ℕ, ◌^◌, ◌<◌, not, ◌&&◌}
+use Rattle.std.specs.Prelude.{ℕ, ◌^◌, ◌<◌, not, ◌&&◌, Option, Some, None}
 use Rattle.std.proofs.Common.{arith}
 use Rattle.base_logic.specs.Laws.Choice.{of-cond}
 use Rattle.peripheral_channel.specs.declared.record.Channel.{Channel}
-use Rattle.peripheral_channel.specs.declared.codes.Change.{Change}
-use Rattle.peripheral_channel.specs.declared.codes.Change.TheVariants.{Wait, To}
 use Rattle.peripheral_channel.specs.Codes.{channel_input, channel_output, activate_of, disconnect_of, function_of}
 
 -- "a 12-bit word"
@@ -12,9 +10,9 @@ abbrev pub ChannelFits : Channel → Type 0
 ChannelFits c = c.word < 2 ^ 12
 
 -- a wait leaves the channel that the code found
-abbrev pub FitsChange : Change → Type 0
-FitsChange Wait = Unit {0}
-FitsChange (To c) = ChannelFits c
+abbrev pub FitsChange : Option Channel → Type 0
+FitsChange None = Unit {0}
+FitsChange (Some c) = ChannelFits c
 
 pub input-fits : (c : Channel) → FitsChange (channel_input c)
 unfolding channel_input

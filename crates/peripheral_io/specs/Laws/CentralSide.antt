@@ -1,9 +1,8 @@
 -- 26 and the verdict on its package.
-use Rattle.std.specs.Prelude.{Bool, true, false, cond, List, ◌≡◌, refl, ℕ, ◌+◌}
+use Rattle.std.specs.Prelude.{Bool, true, false, cond, List, ◌≡◌, refl, ℕ, ◌+◌, Ok, Err}
 use Rattle.base_outcome.specs.Numbers.{refusal_number, peripheral_stop_number}
 use Rattle.base_outcome.specs.declared.refusal.Refusal.TheVariants as Refusal
-use Rattle.base_outcome.specs.declared.refusal.Verdict.{Verdict}
-use Rattle.base_outcome.specs.declared.refusal.Verdict.TheVariants as Call
+use Rattle.base_outcome.specs.Verdict.{Verdict}
 use Rattle.base_outcome.specs.declared.stop.PeripheralStop.TheVariants as Because
 use Rattle.exchange_jump.specs.Jump.{package_inside, package_clean, field_inside, package_verdict}
 use Rattle.peripheral_machine.specs.declared.effect.PeripheralEffect.{PeripheralEffect}
@@ -24,8 +23,8 @@ effect_stop (Effect.Stop why) = peripheral_stop_number why
 
 -- "33, 34, 35 for package faults 9, 10, 11": 24 more than the refusal's number
 abbrev pub fault_stop : Verdict → ℕ
-fault_stop Call.Accepted = 0
-fault_stop (Call.Refused r) = 24 + refusal_number r
+fault_stop (Ok _) = 0
+fault_stop (Err r) = 24 + refusal_number r
 
 by_tests : (inside clean field : Bool) (p a : ℕ)
     → effect_stop
@@ -33,8 +32,8 @@ by_tests : (inside clean field : Bool) (p a : ℕ)
     (Effect.Stop Because.PackagePastEnd))
     ≡ fault_stop
     (cond inside
-    (cond clean (cond field Call.Accepted (Call.Refused Refusal.FieldPastEnd)) (Call.Refused Refusal.StrayBits))
-    (Call.Refused Refusal.PackagePastEnd))
+    (cond clean (cond field (Ok tt) (Err Refusal.FieldPastEnd)) (Err Refusal.StrayBits))
+    (Err Refusal.PackagePastEnd))
 by_tests true true true p a = refl
 by_tests true true false p a = refl
 by_tests true false f p a = refl

@@ -1,5 +1,5 @@
 -- The effects of 64 to 67, 70, 72 and 74 to 77 name channels that are there, and values of their widths.
-use Rattle.std.specs.Prelude.{List, ℕ, ◌-◌, ◌^◌, ◌<◌, eqb, ltb}
+use Rattle.std.specs.Prelude.{List, ℕ, ◌-◌, ◌^◌, ◌<◌, eqb, ltb, Option, Some, None}
 use borrow.Author.Tests.{ltb-true}
 use Rattle.word_arithmetic.specs.Bits.{low}
 use Rattle.base_logic.specs.Laws.Choice.{of-cond}
@@ -7,8 +7,6 @@ use Rattle.base_lists.specs.Laws.Each.{of-get_d}
 use Rattle.peripheral_channel.specs.Codes.{channel_input, channel_output, activate_of, disconnect_of, function_of}
 use Rattle.peripheral_channel.specs.Laws.Width.{ChannelFits, FitsChange, input-fits, output-fits, activate-fits, disconnect-fits, function-fits}
 use Rattle.peripheral_channel.specs.declared.record.Channel.{Channel}
-use Rattle.peripheral_channel.specs.declared.codes.Change.{Change}
-use Rattle.peripheral_channel.specs.declared.codes.Change.TheVariants as Becomes
 use Rattle.peripheral_machine.specs.Numbers.{channel_of, clock_of}
 use Rattle.peripheral_machine.specs.Widths.{NumbersWide, PeripheralSound}
 use Rattle.peripheral_machine.specs.Laws.Widths.{channel-fits, clock-short}
@@ -18,9 +16,9 @@ use Rattle.peripheral_io.specs.Channels.{no_channel, condition, jump_channel, ch
 use Rattle.peripheral_codes.specs.Widths.{Memory, Held}
 use Rattle.peripheral_codes.specs.Laws.Addresses.{low-lt, onward-lt, second_lt, wider}
 
-changed-sound : (c : List ℕ) (p a d : ℕ) (x : Change) → p < 2 ^ 12 → a < 2 ^ 18 → d < 0o14 → FitsChange x → PeripheralSound c (changed p a d x)
-changed-sound c p a d Becomes.Wait hp ha hd f = tt
-changed-sound c p a d (Becomes.To r) hp ha hd f = ((hp, ha), (hd, f))
+changed-sound : (c : List ℕ) (p a d : ℕ) (x : Option Channel) → p < 2 ^ 12 → a < 2 ^ 18 → d < 0o14 → FitsChange x → PeripheralSound c (changed p a d x)
+changed-sound c p a d None hp ha hd f = tt
+changed-sound c p a d (Some r) hp ha hd f = ((hp, ha), (hd, f))
 
 -- c is the central memory
 module _ (c s : List ℕ) (q : Processor) where

@@ -1,11 +1,10 @@
 -- Demand 3, of the answers of `schedule`.
-use Rattle.std.specs.Prelude.{List, [], ◌∷◌, ◌++◌, ◌≡◌, refl, ℕ, suc, ◌<◌}
+use Rattle.std.specs.Prelude.{List, [], ◌∷◌, ◌++◌, ◌≡◌, refl, ℕ, suc, ◌<◌, Ok, Err}
 use Rattle.std.proofs.Math.Path.{sym}
 use Rattle.std.proofs.Common.{ap, subst, ◌∙◌, arith}
 use Rattle.std.proofs.Math.ListN.{length, get_or}
 use Rattle.base_outcome.specs.Laws.Verdict.{either}
-use Rattle.base_outcome.specs.declared.refusal.Verdict.TheVariants as Call
-use Rattle.base_outcome.specs.declared.refusal.Verdict.{Verdict}
+use Rattle.base_outcome.specs.Verdict.{Verdict}
 use Rattle.central_record.specs.declared.record.Central.{Central}
 use Rattle.single_stint.specs.Stint.{stint_of}
 use Rattle.shared_schedule.specs.Isolation.{ScheduleAccepted, start, package_in, field_in, of_job, total, last_of, NoneButLast, Alike, OutsideJobs}
@@ -17,7 +16,7 @@ use Rattle.shared_calls.specs.Answer.{schedule_answer_by, schedule_answer}
 
 -- a call that is carried out, by its answer
 pub record CarriedOut (s : Schedule) : Type 0 where
-  pub verdict : (schedule_answer s).answer.verdict ≡ Call.Accepted
+  pub verdict : (schedule_answer s).answer.verdict ≡ Ok tt
   pub registers : length s.central.registers ≡ 24
 
 -- of the answer's entries, those of job i's stints
@@ -35,8 +34,8 @@ pub record AnswersAlike (s : Schedule) (i : ℕ) (s' : Schedule) (i' : ℕ) : Ty
 
 -- the answer's verdict
 pub same-verdict : (v : Verdict) (s : Schedule) → (schedule_answer_by v s).answer.verdict ≡ v
-same-verdict Call.Accepted s = refl
-same-verdict (Call.Refused r) s = refl
+same-verdict (Ok _) s = refl
+same-verdict (Err r) s = refl
 
 -- an entry for each stint
 pub one_each : (jobs js ts m : List ℕ) (c : Central) → length js ≡ length ts
@@ -61,7 +60,7 @@ module _ (s : Schedule) (a : CarriedOut s) where
   unfolding schedule_answer
   carried-out-accepted = record { verdict = sym (same-verdict (schedule_verdict s) s) ∙ a.verdict; registers = a.registers }
 
-  pub answer-is : schedule_answer s ≡ schedule_answer_by Call.Accepted s
+  pub answer-is : schedule_answer s ≡ schedule_answer_by (Ok tt) s
   unfolding schedule_answer
   answer-is = rw carried-out-accepted.verdict
 
@@ -92,7 +91,7 @@ answers-alike s s' a a' i i' li li' last last' alike =
 
 -- accepted or refused: the record comes back as it was, memory keeps its length, and each word outside the listed packages and fields its value
 module _ (s : Schedule) (count : length s.central.registers ≡ 24) where
-  taken : schedule_verdict s ≡ Call.Accepted → ScheduleAccepted s
+  taken : schedule_verdict s ≡ Ok tt → ScheduleAccepted s
   taken e = record { verdict = e; registers = count }
 
   pub record-back : (schedule_answer s).answer.central ≡ s.central

@@ -1,9 +1,8 @@
 -- `run_program` is the schedule of one job and one stint.
-use Rattle.std.specs.Prelude.{List, [], ◌∷◌, ◌≡◌, ℕ}
+use Rattle.std.specs.Prelude.{List, [], ◌∷◌, ◌≡◌, ℕ, Ok, Err}
 use Rattle.std.proofs.Math.Path.{refl}
 use Rattle.std.proofs.Common.{◌∙◌}
-use Rattle.base_outcome.specs.declared.refusal.Verdict.TheVariants as Call
-use Rattle.base_outcome.specs.declared.refusal.Verdict.{Verdict}
+use Rattle.base_outcome.specs.Verdict.{Verdict}
 use Rattle.central_record.specs.declared.record.Central.{Central}
 use Rattle.single_calls.specs.Program.{ProgramAnswered, program_verdict, program_answer_by, program_answer}
 use Rattle.single_stint.specs.Stint.{stint_of}
@@ -25,8 +24,8 @@ as_schedule o =
 module _ (m : List ℕ) (c : Central) (at n : ℕ) where
   by-verdict : (v : Verdict) → as_schedule (program_answer_by v m c (stint_of m c at n)) ≡ schedule_answer_by v (one_job m c at n)
   unfolding stints_of
-  by-verdict Call.Accepted = refl
-  by-verdict (Call.Refused r) = refl
+  by-verdict (Ok tt) = refl
+  by-verdict (Err r) = refl
 
   pub program-is-schedule : as_schedule (program_answer m c at n) ≡ schedule_answer (one_job m c at n)
   unfolding program_answer schedule_answer

@@ -1,8 +1,12 @@
 -- The stints as a loop: the results of those made stand before those of the stints to come.
 use mathlib.Core.List.{List, [], ◌∷◌, ◌++◌, append-nil}
-use Rattle.std.specs.Prelude.{◌≡◌, refl, ℕ, suc, ◌+◌, ◌-◌, ◌≤◌, ◌<◌, length, get_or, set, take, replicate}
+use Rattle.std.specs.Prelude.{◌≡◌, refl, ℕ, suc, ◌+◌, ◌-◌, ◌≤◌, ◌<◌, length, get_or, map, set, take, replicate}
 use Rattle.std.proofs.Common.{sym, ap, subst, ◌∙◌, add-one, arith, length-set, take-append-drop, length-take-le, drop-drop, drop-set-lt, take-suc-set}
-use Rattle.std.proofs.Math.ListN.{drop, drop_of_length-le}
+use Rattle.std.proofs.Math.ListN.{drop, drop_of_length-le, get_or-map}
+use Rattle.std.proofs.lemmas.List.{length-map, map-set}
+use Rattle.base_lists.specs.Indexed.{tabulate}
+use Rattle.base_lists.specs.Laws.Indexed.{tabulate-of}
+use Rattle.central_turn.specs.Turn.{stop_number}
 use Rattle.std.proofs.Math.Seq.{drop-cons, append_snoc}
 use Rattle.central_record.specs.declared.record.Central.{Central}
 use Rattle.single_stint.specs.Stint as Single
@@ -11,7 +15,9 @@ use Rattle.shared_limits.specs.Limits.{most_stints}
 use Rattle.shared_schedule.specs.Laws.Stint.{stint-may-run, length-kept, still-ready}
 use Rattle.shared_schedule.specs.Ready.{Ready}
 use Rattle.shared_schedule.specs.Schedule.{ScheduleEnd, stint_then, stints_of}
-use Rattle.shared_calls.specs.Answer.{MayRun, stints_to, padded, in_arrays}
+use Rattle.shared_calls.specs.Answer.{MayRun, turns_in, stops_in, padded, in_arrays}
+use Rattle.shared_calls.specs.declared.stints.StintResult.{StintResult}
+use Rattle.single_stint.specs.declared.stint.StintEnd.{StintEnd}
 
 abbrev joined : List ℕ → List ℕ → ScheduleEnd → ScheduleEnd
 joined xs ys o = record { memory = o.memory; central = o.central; turns = xs ++ o.turns; stops = ys ++ o.stops }
@@ -57,7 +63,8 @@ stints-going-start jobs js ts m c may =
 
 module _ (jobs js ts m₀ : List ℕ) (c₀ : Central) (m : List ℕ) (c : Central) (turns stops : List ℕ) (k : ℕ)
     (g : StintsGoing jobs js ts m₀ c₀ m c turns stops k) where
-  pub stints-going-end : length js ≤ k → stints_to m (record { central = c; turns = turns; stops = stops }) ≡ in_arrays (stints_of jobs js ts m₀ c₀)
+  pub stints-going-end : length js ≤ k
+      → record { memory = m; end = record { central = c; turns = turns; stops = stops } } ≡ in_arrays (stints_of jobs js ts m₀ c₀)
   unfolding stints_of
   stints-going-end l =
       let most : k ≤ most_stints = omega (arith, g.upto, g.may.most) in
@@ -124,3 +131,22 @@ module _ (jobs js ts m₀ : List ℕ) (c₀ : Central) (m : List ℕ) (c : Centr
     pub stints-going-on : (at : ℕ) → at ≡ get_or jobs (get_or js k 0) 0 → (o : StintMemory) → o ≡ stint_of m c at (get_or ts k 0)
         → StintsGoing jobs js ts m₀ c₀ o.memory o.end.central (set turns k o.end.turns) (set stops k o.end.stop) (k + 1)
     stints-going-on at e o h = stint-made o (h ∙ ap (λ (x : ℕ). stint_of m c x (get_or ts k 0)) e)
+
+-- what a list holds, entry by entry
+pub tabulate-map : {A B : Type 0} (f : A → B) (d : A) (n : ℕ) (xs : List A) → length xs ≡ n → tabulate n (λ i. f (get_or xs i d)) ≡ map f xs
+tabulate-map f d n xs e = tabulate-of (λ i. f (get_or xs i d)) (f d) n (map f xs) (length-map xs f ∙ e) (λ i h. sym (get_or-map f xs i d))
+
+-- the same by the results as they are stored
+abbrev pub result_of : StintEnd → StintResult
+result_of o = record { turns = o.turns; stop = o.stop }
+
+pub results-going-on : (jobs js ts m₀ : List ℕ) (c₀ : Central) (m : List ℕ) (c : Central) (results : List StintResult) (k : ℕ)
+    → StintsGoing jobs js ts m₀ c₀ m c (turns_in results) (stops_in results) k → k < length js
+    → (at : ℕ) → at ≡ get_or jobs (get_or js k 0) 0 → (m' : List ℕ) (o : StintEnd) → Single.stint_to m' o ≡ stint_of m c at (get_or ts k 0)
+    → StintsGoing jobs js ts m₀ c₀ m' o.central (turns_in (set results k (result_of o))) (stops_in (set results k (result_of o))) (k + 1)
+results-going-on jobs js ts m₀ c₀ m c results k g l at e m' o h =
+    rw (
+      map-set (λ (r : StintResult). r.turns) results k (result_of o),
+      map-set (λ (r : StintResult). stop_number r.stop) results k (result_of o),
+    )
+    (stints-going-on jobs js ts m₀ c₀ m c (turns_in results) (stops_in results) k g l at e (Single.stint_to m' o) h)

@@ -1,14 +1,12 @@
 -- What a refusal says of the tests of a schedule: those of lower numbers passed, and its own did not.
-use Rattle.std.specs.Prelude.{Bool, true, false, ◌&&◌, cond, List, [], ◌∷◌, ◌++◌, ◌⊎◌, ◌≡◌, refl, ℕ, ◌≤◌, ◌<◌, ltb, length}
+use Rattle.std.specs.Prelude.{Bool, true, false, ◌&&◌, cond, List, [], ◌∷◌, ◌++◌, ◌⊎◌, ◌≡◌, refl, ℕ, ◌≤◌, ◌<◌, ltb, length, Ok, Err}
 use Rattle.std.proofs.Common.{inl, inr, ⊎_elim, sym, ◌∙◌, arith, ltb-true, ltb-false}
 use Rattle.std.proofs.Math.Path.{ap}
 use Rattle.base_logic.specs.Laws.Tests.{both}
 use Rattle.base_outcome.specs.Numbers.{refusal_number, verdict_number}
 use Rattle.base_outcome.specs.Order.{or_else}
 use Rattle.base_outcome.specs.declared.refusal.Refusal.{Refusal}
-use Rattle.base_outcome.specs.declared.refusal.Refusal.TheVariants as Refusal
-use Rattle.base_outcome.specs.declared.refusal.Verdict.{Verdict}
-use Rattle.base_outcome.specs.declared.refusal.Verdict.TheVariants as Call
+use Rattle.base_outcome.specs.Verdict.{Verdict}
 use Rattle.central_record.specs.Record.{length_fits, words_fit, record_fits, host_verdict}
 use Rattle.exchange_jump.specs.Jump.{package_inside, package_clean, field_inside}
 use Rattle.shared_schedule.specs.Refusals.{lists_fit, jobs_listed, turns_fit, lists_verdict, every_job, all_apart, owners_verdict, schedule_verdict}
@@ -26,8 +24,8 @@ abbrev number : Step → ℕ
 number x = refusal_number x.refusal
 
 abbrev in_order : List Step → Verdict
-in_order [] = Call.Accepted
-in_order (x ∷ l) = cond x.passed (in_order l) (Call.Refused x.refusal)
+in_order [] = Ok tt
+in_order (x ∷ l) = cond x.passed (in_order l) (Err x.refusal)
 
 -- "Lowest number first", each above n
 abbrev ascending : ℕ → List Step → Bool
@@ -42,7 +40,7 @@ rising n x l a =
     (ltb-true n (number x) h.0, h.1)
 
 -- two lists of tests, one after the other
-or-else-cond : (t : Bool) (v w : Verdict) (r : Refusal) → or_else (cond t v (Call.Refused r)) w ≡ cond t (or_else v w) (Call.Refused r)
+or-else-cond : (t : Bool) (v w : Verdict) (r : Refusal) → or_else (cond t v (Err r)) w ≡ cond t (or_else v w) (Err r)
 or-else-cond true v w r = refl
 or-else-cond false v w r = refl
 
@@ -51,13 +49,13 @@ in-order-then [] l = refl
 in-order-then (x ∷ k) l = or-else-cond x.passed (in_order k) (in_order l) x.refusal ∙ rw (in-order-then k l)
 
 -- a refusal is one of the tests after the first, or the first test's own
-passed-or-not : (x : Step) (l : List Step) (r : Refusal) (t : Bool) → x.passed ≡ t → in_order (x ∷ l) ≡ Call.Refused r
-    → ((x.passed ≡ true) × (in_order l ≡ Call.Refused r)) ⊎ ((x.passed ≡ false) × (number x ≡ refusal_number r))
+passed-or-not : (x : Step) (l : List Step) (r : Refusal) (t : Bool) → x.passed ≡ t → in_order (x ∷ l) ≡ Err r
+    → ((x.passed ≡ true) × (in_order l ≡ Err r)) ⊎ ((x.passed ≡ false) × (number x ≡ refusal_number r))
 passed-or-not x l r true p e = inl (p, rw p at e)
 passed-or-not x l r false p e = inr (p, ap verdict_number (rw p at e))
 
 -- a refusal has a number above n
-above : (n : ℕ) (l : List Step) (r : Refusal) → ascending n l ≡ true → in_order l ≡ Call.Refused r → n < refusal_number r
+above : (n : ℕ) (l : List Step) (r : Refusal) → ascending n l ≡ true → in_order l ≡ Err r → n < refusal_number r
 above n [] r a e = let z : ◌≡◌ {A = ℕ} 0 1 = cc in absurd (omega arith)
 above n (x ∷ l) r a e =
     let up = rising n x l a in
@@ -84,7 +82,7 @@ told-first x l n lower own true d = lower (ltb-true _ _ d)
 told-first x l n lower own false d = own (ltb-false _ _ d)
 
 -- it is so: the number is one test's alone
-told : (n : ℕ) (l : List Step) (r : Refusal) → ascending n l ≡ true → in_order l ≡ Call.Refused r → Told (refusal_number r) l
+told : (n : ℕ) (l : List Step) (r : Refusal) → ascending n l ≡ true → in_order l ≡ Err r → Told (refusal_number r) l
 told n [] r a e = tt
 told n (x ∷ l) r a e =
     let up = rising n x l a in
@@ -127,5 +125,5 @@ module _ (s : Schedule) where
       ap (or_else (in_order host_steps)) (in-order-then list_steps owner_steps)
       ∙ in-order-then host_steps (list_steps ++ owner_steps)
 
-  pub schedule-told : (r : Refusal) → schedule_verdict s ≡ Call.Refused r → Told (refusal_number r) steps
+  pub schedule-told : (r : Refusal) → schedule_verdict s ≡ Err r → Told (refusal_number r) steps
   schedule-told r e = told 0 steps r refl (sym schedule-in-order ∙ e)

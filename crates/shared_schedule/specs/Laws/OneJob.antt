@@ -1,11 +1,10 @@
 -- The run of one program is the schedule of one job and one stint.
-use Rattle.std.specs.Prelude.{Bool, true, false, not, ◌&&◌, cond, List, [], ◌∷◌, ◌≡◌, ℕ, ◌≤◌, ltb, leb}
+use Rattle.std.specs.Prelude.{Bool, true, false, not, ◌&&◌, cond, List, [], ◌∷◌, ◌≡◌, ℕ, ◌≤◌, ltb, leb, Ok, Err}
 use Rattle.std.proofs.Math.Path.{refl}
 use Rattle.std.proofs.Common.{sym, ◌∙◌}
 use borrow.Author.Tests.{leb-true, leb-false, lt-ltb, le-ltb}
 use Rattle.base_outcome.specs.declared.refusal.Refusal.TheVariants as Refusal
-use Rattle.base_outcome.specs.declared.refusal.Verdict.TheVariants as Call
-use Rattle.base_outcome.specs.declared.refusal.Verdict.{Verdict}
+use Rattle.base_outcome.specs.Verdict.{Verdict}
 use Rattle.base_lists.specs.Indexed.{all_below}
 use Rattle.central_record.specs.Record.{host_verdict}
 use Rattle.exchange_jump.specs.Jump.{package_verdict, package_inside, package_clean, field_inside}
@@ -25,7 +24,7 @@ one_job m c at n = record { memory = m; central = c; jobs = at ∷ []; stint_job
 
 module _ (m : List ℕ) (at n : ℕ) where
   abbrev unless_too_many : Bool → Verdict
-  unless_too_many fit = cond fit Call.Accepted (Call.Refused Refusal.TooManyTurns)
+  unless_too_many fit = cond fit (Ok tt) (Err Refusal.TooManyTurns)
 
   one_list : lists_verdict (at ∷ []) (0 ∷ []) (n ∷ []) ≡ unless_too_many (leb n most_turns)
   unfolding lists_verdict lists_fit jobs_fit jobs_listed turns_fit all_below
@@ -38,14 +37,14 @@ module _ (m : List ℕ) (at n : ℕ) where
   in_order : (inside clean field shared : Bool)
       → cond inside
       (cond clean
-      (cond field (cond (not shared && true) Call.Accepted (Call.Refused Refusal.SharedWord)) (Call.Refused Refusal.FieldPastEnd))
-      (Call.Refused Refusal.StrayBits))
-      (Call.Refused Refusal.PackagePastEnd)
+      (cond field (cond (not shared && true) (Ok tt) (Err Refusal.SharedWord)) (Err Refusal.FieldPastEnd))
+      (Err Refusal.StrayBits))
+      (Err Refusal.PackagePastEnd)
       ≡ or_else
       (cond inside
-      (cond clean (cond field Call.Accepted (Call.Refused Refusal.FieldPastEnd)) (Call.Refused Refusal.StrayBits))
-      (Call.Refused Refusal.PackagePastEnd))
-      (cond shared (Call.Refused Refusal.SharedWord) Call.Accepted)
+      (cond clean (cond field (Ok tt) (Err Refusal.FieldPastEnd)) (Err Refusal.StrayBits))
+      (Err Refusal.PackagePastEnd))
+      (cond shared (Err Refusal.SharedWord) (Ok tt))
   in_order true true true true = refl
   in_order true true true false = refl
   in_order true true false s = refl
@@ -56,7 +55,7 @@ module _ (m : List ℕ) (at n : ℕ) where
   unfolding owners_verdict all_apart jobs_apart all_below package_verdict overlap_verdict
   one-owner = in_order (package_inside m at) (package_clean m at) (field_inside m at) meets
 
-  turns-tested : (fit : Bool) → leb n most_turns ≡ fit → unless_too_many fit ≡ cond (ltb most_turns n) (Call.Refused Refusal.TooManyTurns) Call.Accepted
+  turns-tested : (fit : Bool) → leb n most_turns ≡ fit → unless_too_many fit ≡ cond (ltb most_turns n) (Err Refusal.TooManyTurns) (Ok tt)
   turns-tested true e = rw (le-ltb most_turns n (leb-true n most_turns e))
   turns-tested false e = rw (lt-ltb most_turns n (leb-false n most_turns e))
 
@@ -65,7 +64,7 @@ module _ (m : List ℕ) (at n : ℕ) where
   one-verdict c = rw (one_list, one-owner, turns-tested (leb n most_turns) refl) (sym (or-else-assoc (host_verdict m c) _ _))
 
   -- where no number refuses
-  pub one-accepted : (c : Central) → Single.StintAccepted m c at → n ≤ most_turns → schedule_verdict (one_job m c at n) ≡ Call.Accepted
+  pub one-accepted : (c : Central) → Single.StintAccepted m c at → n ≤ most_turns → schedule_verdict (one_job m c at n) ≡ Ok tt
   unfolding program_verdict turns_verdict owner_verdict overlap_verdict
   one-accepted c a h =
       one-verdict c ∙ rw (of-host-accepted m c a.host, le-ltb most_turns n h, of-package-accepted m at a.owner, a.apart)

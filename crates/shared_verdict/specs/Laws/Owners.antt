@@ -1,6 +1,7 @@
 -- What the tests of all jobs say of each.
 use Rattle.std.specs.Prelude.{true, List, ◌≡◌, ℕ, ◌+◌, ◌≤◌, ◌<◌, length, get_or}
-use Rattle.std.proofs.Common.{arith}
+use Rattle.std.proofs.Common.{arith, ◌∙◌}
+use Rattle.std.proofs.lemmas.Grind.{get_or_default_zero}
 use borrow.Author.Tests.{leb-true}
 use Rattle.exchange_jump.specs.Jump.{record_at, package_inside, field_inside}
 use Rattle.base_lists.specs.Laws.Indexed.{all-at}
@@ -15,6 +16,10 @@ module _ (m jobs : List ℕ) (i : ℕ) (l : i < length jobs) where
   field-inside : every_job jobs (field_inside m) ≡ true → (record_at m (get_or jobs i 0)).ra + (record_at m (get_or jobs i 0)).fl ≤ length m
   unfolding field_inside
   field-inside h = leb-true _ _ (all-at (λ j. field_inside m (get_or jobs j 0)) (length jobs) h i l)
+
+-- the same of the address that stands at a place
+pub inside-at : (m jobs : List ℕ) → every_job jobs (package_inside m) ≡ true → (at i : ℕ) → i < length jobs → at ≡ get_or jobs i at → at + 16 ≤ length m
+inside-at m jobs h at i l e = rw (e ∙ get_or_default_zero jobs i at l) (package-inside m jobs i l h)
 
 -- no package and no field ends past the longest memory
 module _ {m jobs : List ℕ} (k : Inside m jobs) (i : ℕ) (l : i < length jobs) where

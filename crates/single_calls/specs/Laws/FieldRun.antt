@@ -1,11 +1,12 @@
 -- Turns of a running processor are one run on its field.
-use Rattle.std.specs.Prelude.{Bool, ◌≡◌, refl, ℕ, zero, suc, eqb, length}
+use Rattle.std.specs.Prelude.{Bool, is_none, ◌≡◌, refl, ℕ, zero, suc, eqb, length}
 use Rattle.std.proofs.Math.Bool.{true, false}
 use mathlib.Core.List.{List}
 use Rattle.std.proofs.Common.{sym, ap, subst, ◌∙◌, eqb-true, eq-eqb}
 use Rattle.central_apply.specs.State.{state}
-use Rattle.central_turn.specs.Turn.{Turn, turn_of, turns_of}
+use Rattle.central_turn.specs.Turn.{stop_number, Turn, turn_of, turns_of}
 use Rattle.central_turn.specs.Laws.Run.{RunKept, turns-one}
+use Rattle.central_turn.specs.Laws.Stop.{number-of-none}
 use Rattle.base_lists.specs.Parts.{part}
 use Rattle.base_lists.specs.Laws.Parts.{splice-part, part-splice, splice-splice}
 use Rattle.central_record.specs.declared.record.Central.{Central}
@@ -54,12 +55,12 @@ module _ (m : List ℕ) (c : Central) (l : HostAccepted m c) (count : length c.r
 
     first-turn : (n : ℕ)
         → ((turned_once m c).central.stop ≡ 0 → ran_turns (ran_on (turned_once m c).memory (turned_once m c).central n) ≡ turned_up_to n (turned_once m c))
-        → (z : Bool) → eqb (turn_on m c).end.stop 0 ≡ z → ran_turns (ran_on m c (suc n)) ≡ more_turned 1 (turned_up_to n (turned_once m c))
+        → (z : Bool) → is_none (turn_on m c).end.stop ≡ z → ran_turns (ran_on m c (suc n)) ≡ more_turned 1 (turned_up_to n (turned_once m c))
     unfolding ran_on turns_of
     first-turn n rest true z =
         rw (z, ← once)
-        (ap (more_turned 1) (ap ran_turns (sym (run-after-turn n)) ∙ (rw (← once) at rest) (eqb-true (turn_on m c).end.stop 0 z)))
-    first-turn n rest false z = rw (z, ← once) (ap (more_turned 1) (stopped_none (central_after_turn m c (turn_on m c)) n z))
+        (ap (more_turned 1) (ap ran_turns (sym (run-after-turn n)) ∙ (rw (← once) at rest) (eqb-true (stop_number (turn_on m c).end.stop) 0 (number-of-none (turn_on m c).end.stop ∙ z))))
+    first-turn n rest false z = rw (z, ← once) (ap (more_turned 1) (stopped_none (central_after_turn m c (turn_on m c)) n (number-of-none (turn_on m c).end.stop ∙ z)))
 
 -- turns of a running processor are one run on its field
 pub ran-is : (n : ℕ) (m : List ℕ) (c : Central) → HostAccepted m c → length c.registers ≡ 24 → c.stop ≡ 0
@@ -69,5 +70,5 @@ ran-is zero m c l count running = ran-none m c running
 ran-is (suc n) m c l count running =
     first-turn m c l count running n
     (ran-is n (turned_once m c).memory (turned_once m c).central (turned-host m c l count) (turned-count m c l count))
-    (eqb (turn_on m c).end.stop 0) refl
+    (is_none (turn_on m c).end.stop) refl
     ∙ running-first (central_machine m c) n (eq-eqb c.stop 0 running)

@@ -1,8 +1,7 @@
 -- The call that runs one program: what an accepted call is, and its promises in a reader's words.
-use Rattle.std.specs.Prelude.{List, ◌⊎◌, ◌≡◌, refl, ℕ, ◌+◌, ◌≤◌, ◌<◌, length}
+use Rattle.std.specs.Prelude.{List, ◌⊎◌, ◌≡◌, refl, ℕ, ◌+◌, ◌≤◌, ◌<◌, length, Ok}
 use Rattle.std.proofs.Math.ListN.{get_or}
 use Rattle.base_outcome.specs.declared.refusal.Refusal.TheVariants as Because
-use Rattle.base_outcome.specs.declared.refusal.Verdict.TheVariants as Call
 use Rattle.base_outcome.specs.Laws.Verdict.{either, both-accept, by-fault}
 use Rattle.exchange_jump.specs.Jump.{record_at, package_verdict}
 use Rattle.exchange_jump.specs.Laws.Verdicts.{package-accepted}
@@ -14,7 +13,7 @@ use Rattle.single_stint.specs.Laws.Stint.{stint-record, stint-outside}
 use Rattle.single_calls.specs.Turns.{turns_verdict}
 use Rattle.single_calls.specs.Laws.Turns.{turns-accepted}
 
-pub program-accepted : (m : List ℕ) (c : Central) (at n : ℕ) → program_verdict m c at n ≡ Call.Accepted → StintAccepted m c at
+pub program-accepted : (m : List ℕ) (c : Central) (at n : ℕ) → program_verdict m c at n ≡ Ok tt → StintAccepted m c at
 unfolding program_verdict owner_verdict overlap_verdict
 program-accepted m c at n e =
     let first = both-accept (turns_verdict m c n) (owner_verdict m at) e in
@@ -22,7 +21,7 @@ program-accepted m c at n e =
     record {
       host = (turns-accepted m c n first.0).0;
       owner = package-accepted m at packages.0;
-      apart = (by-fault (shares_word at 16 (record_at m at).ra (record_at m at).fl) Because.SharedWord Call.Accepted packages.1).0;
+      apart = (by-fault (shares_word at 16 (record_at m at).ra (record_at m at).fl) Because.SharedWord (Ok tt) packages.1).0;
     }
 
 module _ (m : List ℕ) (c : Central) (at n : ℕ) where

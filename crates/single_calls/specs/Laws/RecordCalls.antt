@@ -1,9 +1,8 @@
 -- The calls on the central record: by the results of their parts, and what is handed back may be lent again.
-use Rattle.std.specs.Prelude.{Bool, true, false, List, ◌≡◌, ℕ, eqb}
+use Rattle.std.specs.Prelude.{Bool, true, false, List, ◌≡◌, ℕ, eqb, Ok}
 use Rattle.std.proofs.Math.Path.{refl}
 use Rattle.std.proofs.Common.{sym, subst, eq-eqb, eqb-true}
 use Rattle.std.proofs.Math.ListN.{length}
-use Rattle.base_outcome.specs.declared.refusal.Verdict.TheVariants as Call
 use Rattle.central_apply.specs.State.{state}
 use Rattle.central_turn.specs.Laws.Run.{turns-one}
 use Rattle.base_lists.specs.Parts.{part}
@@ -28,8 +27,8 @@ pub stopped-stays : (m : List ℕ) (c : Central) → eqb c.stop 0 ≡ false → 
 unfolding turned_once
 stopped-stays m c e = rw e
 
-module _ (m : List ℕ) (c : Central) (at : ℕ) (e : exchange_verdict m c at ≡ Call.Accepted) where
-  parts : (host_verdict m c ≡ Call.Accepted) × (package_verdict m at ≡ Call.Accepted)
+module _ (m : List ℕ) (c : Central) (at : ℕ) (e : exchange_verdict m c at ≡ Ok tt) where
+  parts : (host_verdict m c ≡ Ok tt) × (package_verdict m at ≡ Ok tt)
   unfolding exchange_verdict
   parts = both-accept (host_verdict m c) (package_verdict m at) e
 
@@ -57,6 +56,6 @@ module _ (m : List ℕ) (c : Central) (l : HostAccepted m c) (count : length c.r
   pub turned-length : length (turned_once m c).memory ≡ length m
   turned-length = by-stop (λ (h : CentralMachine). length h.memory ≡ length m) (ran-length m c l count 1) refl (eqb c.stop 0) refl
 
-pub turn-accepted : (m : List ℕ) (c : Central) → host_verdict m c ≡ Call.Accepted → length c.registers ≡ 24
-    → host_verdict (turned_once m c).memory (turned_once m c).central ≡ Call.Accepted
+pub turn-accepted : (m : List ℕ) (c : Central) → host_verdict m c ≡ Ok tt → length c.registers ≡ 24
+    → host_verdict (turned_once m c).memory (turned_once m c).central ≡ Ok tt
 turn-accepted m c host count = of-host-accepted _ _ (turned-host m c (host-accepted m c host) count)

@@ -1,5 +1,5 @@
 -- Many turns: n and then k are n + k; one is that of `central_turn`; what is handed back may be lent again.
-use Rattle.std.specs.Prelude.{Bool, cond, List, ◌≡◌, eqb, ltb, length}
+use Rattle.std.specs.Prelude.{Bool, cond, List, ◌≡◌, eqb, ltb, length, Ok, Err}
 use Rattle.std.proofs.Math.Bool.{true, false}
 use Rattle.std.proofs.Math.Path.{refl, sym, ap}
 use Rattle.std.proofs.Common.{◌∙◌, zero-add, arith, lit≤}
@@ -7,7 +7,6 @@ use Prim.Native.Nat.{ℕ, zero, suc, ◌+◌, ◌≤◌, ◌<◌}
 use borrow.Author.Tests.{eqb-false, ltb-false, le-ltb}
 use Rattle.base_logic.specs.Laws.Choice.{of-cond}
 use Rattle.base_outcome.specs.declared.refusal.Refusal.TheVariants as Because
-use Rattle.base_outcome.specs.declared.refusal.Verdict.TheVariants as Call
 use Rattle.base_outcome.specs.Laws.Verdict.{either, both-accept, by-fault}
 use Rattle.central_record.specs.Record.{host_verdict}
 use Rattle.central_record.specs.declared.record.Central.{Central}
@@ -94,8 +93,8 @@ module _ (m : List ℕ) (c : Central) where
   unfolding turns_answer turns_verdict turn_answer
   one-turn-answer =
       either
-      (λ v. without_count (turns_answer_by (or_else v Call.Accepted) (central_machine m c) (turned_up_to 1 (central_machine m c))) ≡ central_answer_by v (central_machine m c) (turned_once m c))
-      (host_verdict m c) (λ e. ap (λ (o : Turned). central_answered Call.Accepted o.machine) one-turn) (λ r. refl)
+      (λ v. without_count (turns_answer_by (or_else v (Ok tt)) (central_machine m c) (turned_up_to 1 (central_machine m c))) ≡ central_answer_by v (central_machine m c) (turned_once m c))
+      (host_verdict m c) (λ e. ap (λ (o : Turned). central_answered (Ok tt) o.machine) one-turn) (λ r. refl)
 
 -- a memory and a record that may be lent may be lent again after turns
 pub turned-accepted : (n : ℕ) (h : CentralMachine) → HostAccepted h.memory h.central → length h.central.registers ≡ 24
@@ -110,13 +109,13 @@ turned-accepted (suc n) h l count =
 
 -- what an accepted call is
 module _ (m : List ℕ) (c : Central) (n : ℕ) where
-  pub turns-accepted : turns_verdict m c n ≡ Call.Accepted → HostAccepted m c × (n ≤ most_turns)
+  pub turns-accepted : turns_verdict m c n ≡ Ok tt → HostAccepted m c × (n ≤ most_turns)
   unfolding turns_verdict
   turns-accepted e =
-      let tests = both-accept (host_verdict m c) (cond (ltb most_turns n) (Call.Refused Because.TooManyTurns) Call.Accepted) e in
-      (host-accepted m c tests.0, ltb-false most_turns n (by-fault (ltb most_turns n) Because.TooManyTurns Call.Accepted tests.1).0)
+      let tests = both-accept (host_verdict m c) (cond (ltb most_turns n) (Err Because.TooManyTurns) (Ok tt)) e in
+      (host-accepted m c tests.0, ltb-false most_turns n (by-fault (ltb most_turns n) Because.TooManyTurns (Ok tt) tests.1).0)
 
-  pub of-turns-accepted : HostAccepted m c → n ≤ most_turns → turns_verdict m c n ≡ Call.Accepted
+  pub of-turns-accepted : HostAccepted m c → n ≤ most_turns → turns_verdict m c n ≡ Ok tt
   unfolding turns_verdict
   of-turns-accepted l few = rw (of-host-accepted m c l, le-ltb most_turns n few)
 
@@ -126,15 +125,15 @@ counted_from n a =
     turns_answer_to a.memory (record { verdict = a.answer.verdict; central = a.answer.central; turns = n + a.answer.turns })
 
 -- on the answers. The registers of a record are 24
-module _ (m : List ℕ) (c : Central) (count : length c.registers ≡ 24) (n : ℕ) (e : turns_verdict m c n ≡ Call.Accepted) where
+module _ (m : List ℕ) (c : Central) (count : length c.registers ≡ 24) (n : ℕ) (e : turns_verdict m c n ≡ Ok tt) where
   abbrev made : Turned
   made = turned_up_to n (central_machine m c)
 
-  again : (k : ℕ) → k ≤ most_turns → turns_verdict made.machine.memory made.machine.central k ≡ Call.Accepted
+  again : (k : ℕ) → k ≤ most_turns → turns_verdict made.machine.memory made.machine.central k ≡ Ok tt
   again k few = of-turns-accepted _ _ k (turned-accepted n (central_machine m c) (turns-accepted m c n e).0 count) few
 
   -- what an accepted call hands back may be lent again
-  pub lent_again : (k : ℕ) → k ≤ most_turns → turns_verdict (turns_answer m c n).memory (turns_answer m c n).answer.central k ≡ Call.Accepted
+  pub lent_again : (k : ℕ) → k ≤ most_turns → turns_verdict (turns_answer m c n).memory (turns_answer m c n).answer.central k ≡ Ok tt
   unfolding turns_answer
   lent_again k few = rw e (again k few)
 
@@ -145,4 +144,4 @@ module _ (m : List ℕ) (c : Central) (count : length c.registers ≡ 24) (n : �
   unfolding turns_answer
   answers-add k few =
       rw (e, again k (omega arith), of-turns-accepted m c (n + k) (turns-accepted m c n e).0 few)
-      (ap (turns_answered Call.Accepted) (sym (turned-add n k (central_machine m c))))
+      (ap (turns_answered (Ok tt)) (sym (turned-add n k (central_machine m c))))

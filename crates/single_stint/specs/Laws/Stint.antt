@@ -1,10 +1,11 @@
 -- A stint, by the results of its parts; the record comes back as it was, and no word outside package and field changes.
-use Rattle.std.specs.Prelude.{true, List, ◌⊎◌, ◌≡◌, ℕ, ◌+◌, ◌≤◌, ◌<◌, length, get_or}
+use Rattle.std.specs.Prelude.{true, List, Option, ◌⊎◌, ◌≡◌, ℕ, ◌+◌, ◌≤◌, ◌<◌, length, get_or}
 use Rattle.std.proofs.Math.Logic.{⊎_elim}
 use Rattle.std.proofs.Common.{sym, subst, ◌∙◌, arith}
 use Rattle.std.proofs.Math.Path.{ap}
+use Rattle.base_outcome.specs.declared.stop.CentralStop.{CentralStop}
 use Rattle.central_apply.specs.State.{state}
-use Rattle.central_turn.specs.Turn.{Run}
+use Rattle.central_turn.specs.Turn.{stop_number, Run}
 use Rattle.base_lists.specs.Parts.{part}
 use Rattle.exchange_package.specs.Package.{coded, package_record}
 use Rattle.central_record.specs.Record.{FitsPackage, words_fit}
@@ -22,12 +23,11 @@ use Rattle.single_stint.specs.Laws.Field.{field-inside, ran-left, ran-length, ra
 use Rattle.base_lists.specs.Laws.Overlap.{apart, shares-comm}
 
 -- exchanged in, run and exchanged out
-pub stint-is : (m : List ℕ) (c : Central) (at n : ℕ) (i : Exchanged) (o : RanMemory) (x : Exchanged)
-    → i ≡ exchanged m c at → o ≡ ran_on i.memory i.central n → x ≡ exchanged o.memory o.end.central at
-    → stint_to x.memory (record { central = with_stop x.central c.stop; turns = o.end.turns; stop = o.end.central.stop })
-    ≡ stint_of m c at n
+pub stint-is : (m : List ℕ) (c : Central) (at n : ℕ) (i : Exchanged) (o : RanMemory) (s : Option CentralStop) (x : Exchanged)
+    → i ≡ exchanged m c at → o ≡ ran_on i.memory i.central n → o.end.central.stop ≡ stop_number s → x ≡ exchanged o.memory o.end.central at
+    → stint_to x.memory (record { central = with_stop x.central c.stop; turns = o.end.turns; stop = s }) ≡ stint_of m c at n
 unfolding stint_of
-stint-is m c at n i o x ei eo ex = rw (← ei, ← eo, ← ex)
+stint-is m c at n i o s x ei eo es ex = rw (← ei, ← eo, ← ex, es)
 
 module _ (m : List ℕ) (c : Central) (at : ℕ) (a : StintAccepted m c at) where
   pub fits-package : FitsPackage c
@@ -141,9 +141,9 @@ module _ (m : List ℕ) (c : Central) (at : ℕ) (a : StintAccepted m c at) wher
   unfolding stint_of ran_on
   stint-turns n = ap (λ (o : Run). o.end.turns) (turns-own n)
 
-  pub stint-stop : (n : ℕ) → (stint_of m c at n).end.stop ≡ (own n).end.stop
+  pub stint-stop : (n : ℕ) → (stint_of m c at n).end.stop ≡ stop_number (own n).end.stop
   unfolding stint_of ran_on
-  stint-stop n = ap (λ (o : Run). o.end.stop) (turns-own n)
+  stint-stop n = ap (λ (o : Run). stop_number o.end.stop) (turns-own n)
 
   -- the record that the package then holds
   pub after-fits : (n : ℕ) → FitsPackage (record_after (record_at m at) (own n))

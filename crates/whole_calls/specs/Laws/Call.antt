@@ -1,9 +1,8 @@
 -- The calls by the results of their parts, and what is handed back may be lent again.
-use Rattle.std.specs.Prelude.{true, List, ◌≡◌, ℕ, ◌+◌, ◌*◌, ◌≤◌, ◌<◌, length}
+use Rattle.std.specs.Prelude.{true, List, ◌≡◌, ℕ, ◌+◌, ◌*◌, ◌≤◌, ◌<◌, length, Ok, Err}
 use Rattle.std.proofs.Common.{sym, ap, subst, ◌∙◌, arith}
 use Rattle.base_outcome.specs.declared.refusal.Refusal.{Refusal}
-use Rattle.base_outcome.specs.declared.refusal.Verdict.{Verdict}
-use Rattle.base_outcome.specs.declared.refusal.Verdict.TheVariants as Call
+use Rattle.base_outcome.specs.Verdict.{Verdict}
 use Rattle.peripheral_machine.specs.Machine.{Machine, machine}
 use Rattle.peripheral_machine.specs.Widths.{MachineKept}
 use Rattle.whole_record.specs.Numbers.{numbers_of, record_of, machine_of}
@@ -18,12 +17,12 @@ use Rattle.whole_calls.specs.Call.{Left, left, left_by, left_after, machine_answ
 
 -- the answer of a call that is carried out, and of one that is refused
 module _ {A B : Type 0} (answer : Verdict → B → A) (v : Verdict) (lent after : Left B) where
-  pub carried-out : v ≡ Call.Accepted → (o : Left B) → o ≡ after
-      → machine_answered o.central o.peripheral Call.Accepted (answer Call.Accepted o.value) ≡ machine_answer_by answer v lent after
-  carried-out e o h = rw e (ap (machine_answer_by answer Call.Accepted lent) h)
+  pub carried-out : v ≡ Ok tt → (o : Left B) → o ≡ after
+      → machine_answered o.central o.peripheral (Ok tt) (answer (Ok tt) o.value) ≡ machine_answer_by answer v lent after
+  carried-out e o h = rw e (ap (machine_answer_by answer (Ok tt) lent) h)
 
-  pub machine-refused : (x : Refusal) → v ≡ Call.Refused x
-      → machine_answered lent.central lent.peripheral (Call.Refused x) (answer (Call.Refused x) lent.value) ≡ machine_answer_by answer v lent after
+  pub machine-refused : (x : Refusal) → v ≡ Err x
+      → machine_answered lent.central lent.peripheral (Err x) (answer (Err x) lent.value) ≡ machine_answer_by answer v lent after
   machine-refused x e = rw e
 
 module _ (c m : List ℕ) (r : MachineRecord) where
@@ -32,10 +31,10 @@ module _ (c m : List ℕ) (r : MachineRecord) where
   lent s = machine m c r.central.registers s
 
   module _ (s : List ℕ) (e : s ≡ numbers_of r) where
-    ready : machine_verdict true c m r ≡ Call.Accepted → length r.central.registers ≡ 24 → MachineKept (processors_in m * 4096) (lent s)
+    ready : machine_verdict true c m r ≡ Ok tt → length r.central.registers ≡ 24 → MachineKept (processors_in m * 4096) (lent s)
     ready a count = subst (λ (t : List ℕ). MachineKept (processors_in m * 4096) (lent t)) (sym e) (machine-kept c m r a count)
 
-    pub turn-ready : (n : ℕ) → turn_verdict c m r n ≡ Call.Accepted → length r.central.registers ≡ 24
+    pub turn-ready : (n : ℕ) → turn_verdict c m r n ≡ Ok tt → length r.central.registers ≡ 24
         → MachineKept (length m) (lent s) × (((n + 1) * 4096 ≤ length m) × (n + 1 ≤ 10))
     turn-ready n v count =
         let a = peripheral-turn-accepted c m r n v in
@@ -50,7 +49,7 @@ module _ (c m : List ℕ) (r : MachineRecord) where
         ap (left h.central h.peripheral) w
         ∙ ap left_by (t ∙ one-processor n (lent s) ∙ ap (λ (l : List ℕ). processor_turned (lent l) n) e)
 
-    pub run-ready : (n : ℕ) → run_verdict c m r n ≡ Call.Accepted → length r.central.registers ≡ 24
+    pub run-ready : (n : ℕ) → run_verdict c m r n ≡ Ok tt → length r.central.registers ≡ 24
         → MachineKept (processors_in m * 4096) (lent s) × (processors_in m ≤ 10)
     run-ready n v count = let a = run-accepted c m r n v in (ready a.1 count, (processors-few c m r a.1).1)
 
@@ -62,16 +61,16 @@ module _ (c m : List ℕ) (r : MachineRecord) where
         ∙ ap left_after (t ∙ ap (λ (l : List ℕ). rounds_of n (processors_in m) (lent l)) e)
 
   -- what a turn or a run leaves may be lent again
-  module _ (a : machine_verdict true c m r ≡ Call.Accepted) (count : length r.central.registers ≡ 24) where
+  module _ (a : machine_verdict true c m r ≡ Ok tt) (count : length r.central.registers ≡ 24) where
     pub turn-lent-again : (n : ℕ) → n < processors_in m
-        → let h = processor_turned (machine_of c m r) n in machine_verdict true h.central h.peripheral (record_of h.registers h.numbers) ≡ Call.Accepted
+        → let h = processor_turned (machine_of c m r) n in machine_verdict true h.central h.peripheral (record_of h.registers h.numbers) ≡ Ok tt
     turn-lent-again n l =
         let few = processors-few c m r a in
         machine-lent-again (processors_in m) _ few.0 few.1
         (processor-keeps (processors_in m * 4096) n (machine_of c m r) (omega arith) (machine-kept c m r a count) (omega (arith, few.1)))
 
     pub run-lent-again : (n : ℕ)
-        → let h = (rounds_of n (processors_in m) (machine_of c m r)).machine in machine_verdict true h.central h.peripheral (record_of h.registers h.numbers) ≡ Call.Accepted
+        → let h = (rounds_of n (processors_in m) (machine_of c m r)).machine in machine_verdict true h.central h.peripheral (record_of h.registers h.numbers) ≡ Ok tt
     run-lent-again n =
         let few = processors-few c m r a in
         machine-lent-again (processors_in m) _ few.0 few.1

@@ -74,47 +74,37 @@ module _ (k : ℕ) (few : k ≤ 10) where
       processors-length j (n + 1) (omega arith) (processor_turned h n) (processor-keeps (k * 4096) n h (omega arith) kept (omega arith))
       ∙ processor-length (k * 4096) n h (omega arith) kept (omega arith)
 
--- the state of the loop: the last processors, as many as are left, give what all of them give
-pub record ProcessorsGoing (size first count : ℕ) (h₀ h : Machine) (left : ℕ) : Type 0 where
+-- the state of the loop: the processors from n on, up to the last, give what all of them give
+pub record ProcessorsGoing (size first count : ℕ) (h₀ h : Machine) (n : ℕ) : Type 0 where
   pub kept : MachineKept size h
   pub long : length h.central ≡ length h₀.central
-  pub most : left ≤ count
-  pub is : processors_turned left (first + count - left) h ≡ processors_turned count first h₀
+  pub is : processors_turned (first + count - n) n h ≡ processors_turned count first h₀
 
-pub processors-going-start : (size first count : ℕ) (h : Machine) → MachineKept size h → ProcessorsGoing size first count h h count
+pub processors-going-start : (size first count : ℕ) (h : Machine) → MachineKept size h → ProcessorsGoing size first count h h first
 processors-going-start size first count h kept =
-    let e : first + count - count ≡ first = omega arith in
-    record { kept = kept; long = refl; most = omega arith; is = ap (λ (n : ℕ). processors_turned count n h) e }
+    let e : first + count - first ≡ count = omega arith in
+    record { kept = kept; long = refl; is = ap (λ (j : ℕ). processors_turned j first h) e }
 
-module _ (size first count : ℕ) (h₀ h : Machine) (left : ℕ) (g : ProcessorsGoing size first count h₀ h left) where
-  none_left : (j : ℕ) → j ≡ 0 → h ≡ processors_turned j (first + count - left) h
+module _ (size first count : ℕ) (h₀ h : Machine) (n : ℕ) (g : ProcessorsGoing size first count h₀ h n) where
+  none_left : (j : ℕ) → j ≡ 0 → h ≡ processors_turned j n h
   unfolding processors_turned
   none_left zero e = refl
   none_left (suc j) e = absurd (omega arith)
 
-  pub processors-going-end : left ≤ 0 → h ≡ processors_turned count first h₀
-  processors-going-end l = none_left left (omega arith) ∙ g.is
+  pub processors-going-end : first + count ≤ n → h ≡ processors_turned count first h₀
+  processors-going-end l = none_left (first + count - n) (omega arith) ∙ g.is
 
-  module _ (room : (first + count) * 4096 ≤ size) (few : first + count ≤ 10) (l : 0 < left) (o : Machine)
-      (e : o ≡ processor_turned h (first + count - left)) where
-    next : (j : ℕ) → left ≡ suc j
-        → processors_turned left (first + count - left) h ≡ processors_turned j (first + count - j) (processor_turned h (first + count - left))
+  module _ (room : (first + count) * 4096 ≤ size) (few : first + count ≤ 10) (l : n < first + count) (o : Machine) (e : o ≡ processor_turned h n) where
+    next : (j : ℕ) → first + count - n ≡ suc j → processors_turned (first + count - n) n h ≡ processors_turned j (n + 1) (processor_turned h n)
     unfolding processors_turned
-    next j a =
-        let m = g.most in
-        let b : first + count - left + 1 ≡ first + count - j = omega arith in
-        ap (λ (x : ℕ). processors_turned x (first + count - left) h) a
-        ∙ ap (λ (n : ℕ). processors_turned j n (processor_turned h (first + count - left))) b
+    next j a = ap (λ (x : ℕ). processors_turned x n h) a
 
-    pub processors-going-on : ProcessorsGoing size first count h₀ o (left - 1)
+    pub processors-going-on : ProcessorsGoing size first count h₀ o (n + 1)
     processors-going-on =
-        let m = g.most in
-        let n = first + count - left in
         record {
           kept = subst (MachineKept size) (sym e) (processor-keeps size n h (omega arith) g.kept (omega arith));
           long = ap (λ (x : Machine). length x.central) e ∙ processor-length size n h (omega arith) g.kept (omega arith) ∙ g.long;
-          most = omega arith;
-          is = ap (processors_turned (left - 1) (first + count - (left - 1))) e ∙ sym (next (left - 1) (omega arith)) ∙ g.is;
+          is = ap (processors_turned (first + count - (n + 1)) (n + 1)) e ∙ sym (next (first + count - (n + 1)) (omega arith)) ∙ g.is;
         }
 
 -- one processor alone

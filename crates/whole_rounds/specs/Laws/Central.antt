@@ -2,7 +2,7 @@
 use Rattle.std.specs.Prelude.{List, ◌≡◌, refl, ℕ, length, get_or}
 use Rattle.std.proofs.Common.{sym, ap, subst, ◌∙◌, arith, ne_eqb, length-set}
 use Rattle.central_apply.specs.State.{state}
-use Rattle.central_turn.specs.Turn.{Run}
+use Rattle.central_turn.specs.Turn.{stop_number, Run}
 use Rattle.exchange_jump.specs.Accepted.{HostAccepted}
 use Rattle.base_lists.specs.Parts.{splice}
 use Rattle.single_stint.specs.Field.{field_run, after_run, ran_on}
@@ -23,7 +23,7 @@ central-stopped c x s h =
 
 -- the turn of a running one on its field
 pub central-running : (c x s : List ℕ) → central_stop s ≡ 0 → (o : Run) → o ≡ field_run c (central_of x s) 1
-    → (s' : List ℕ) → s' ≡ with_controls s o.end.p (get_or s 79 0) (get_or s 80 0) (get_or s 81 0) o.end.stop
+    → (s' : List ℕ) → s' ≡ with_controls s o.end.p (get_or s 79 0) (get_or s 80 0) (get_or s 81 0) (stop_number o.end.stop)
     → central_side (splice c (get_or s 79 0) (get_or s 80 0) o.state.field) o.state.registers s' ≡ central_turn_of c x s
 unfolding central_turn_of ran_on
 central-running c x s z o e s' w =

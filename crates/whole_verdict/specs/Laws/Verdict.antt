@@ -1,5 +1,5 @@
 -- What an accepted call lends is a machine that turns may work on, and what they hand back may be lent again.
-use Rattle.std.specs.Prelude.{Bool, ◌&&◌, List, ◌≡◌, ℕ, ◌*◌, ◌%◌, ◌^◌, ◌≤◌, ◌<◌, eqb, length}
+use Rattle.std.specs.Prelude.{Bool, ◌&&◌, List, ◌≡◌, ℕ, ◌*◌, ◌%◌, ◌^◌, ◌≤◌, ◌<◌, eqb, length, Ok}
 use Rattle.std.proofs.Math.Bool.{true}
 use Rattle.std.proofs.Common.{sym, arith, lit<}
 use Rattle.std.proofs.Math.Path.{subst}
@@ -7,7 +7,6 @@ use borrow.Author.Tests.{ltb-true, ltb-false, leb-true, eqb-true, lt-ltb, le-leb
 use Rattle.std.proofs.Math.Dec.{ltb, leb}
 use Rattle.base_logic.specs.Laws.Tests.{both}
 use Rattle.base_outcome.specs.declared.refusal.Refusal.TheVariants as Because
-use Rattle.base_outcome.specs.declared.refusal.Verdict.TheVariants as Call
 use Rattle.peripheral_channel.specs.Codes.{disconnected}
 use Rattle.peripheral_channel.specs.declared.record.Channel.{Channel}
 use Rattle.central_record.specs.Record.{words_fit}
@@ -63,7 +62,7 @@ pub record MachineAccepted (c m : List ℕ) (r : MachineRecord) : Type 0 where
   pub fits : machine_fits (length c) r ≡ true
 
 module _ (c m : List ℕ) (r : MachineRecord) where
-  accepted-if : (there : Bool) → machine_verdict there c m r ≡ Call.Accepted → (there ≡ true) × MachineAccepted c m r
+  accepted-if : (there : Bool) → machine_verdict there c m r ≡ Ok tt → (there ≡ true) × MachineAccepted c m r
   unfolding machine_verdict
   accepted-if there e =
       let t₁ = by-test (leb 1 (length c) && leb (length c) 131072) _ _ e in
@@ -88,23 +87,23 @@ module _ (c m : List ℕ) (r : MachineRecord) where
         },
       )
 
-  pub machine-accepted : machine_verdict true c m r ≡ Call.Accepted → MachineAccepted c m r
+  pub machine-accepted : machine_verdict true c m r ≡ Ok tt → MachineAccepted c m r
   machine-accepted e = (accepted-if true e).1
 
   -- a turn is of a processor that is there
-  pub peripheral-turn-accepted : (n : ℕ) → turn_verdict c m r n ≡ Call.Accepted
-      → (n < processors_in m) × (machine_verdict true c m r ≡ Call.Accepted)
+  pub peripheral-turn-accepted : (n : ℕ) → turn_verdict c m r n ≡ Ok tt
+      → (n < processors_in m) × (machine_verdict true c m r ≡ Ok tt)
   peripheral-turn-accepted n e =
       let h = (accepted-if (ltb n (processors_in m)) e).0 in
-      (ltb-true n (processors_in m) h, subst (λ t. machine_verdict t c m r ≡ Call.Accepted) h e)
+      (ltb-true n (processors_in m) h, subst (λ t. machine_verdict t c m r ≡ Ok tt) h e)
 
-  pub run-accepted : (n : ℕ) → run_verdict c m r n ≡ Call.Accepted → (n ≤ 65535) × (machine_verdict true c m r ≡ Call.Accepted)
+  pub run-accepted : (n : ℕ) → run_verdict c m r n ≡ Ok tt → (n ≤ 65535) × (machine_verdict true c m r ≡ Ok tt)
   unfolding run_verdict
   run-accepted n e =
       let t = both-accept (machine_verdict true c m r) (rounds_verdict n) e in
-      (ltb-false 65535 n (by-fault (ltb 65535 n) Because.TooManyTurns Call.Accepted t.1).0, t.0)
+      (ltb-false 65535 n (by-fault (ltb 65535 n) Because.TooManyTurns (Ok tt) t.1).0, t.0)
 
-  module _ (e : machine_verdict true c m r ≡ Call.Accepted) where
+  module _ (e : machine_verdict true c m r ≡ Ok tt) where
     pub processors-few : (1 ≤ processors_in m) × (processors_in m ≤ 10)
     processors-few =
         let l = (machine-accepted e).size.least in
@@ -162,7 +161,7 @@ module _ (n : ℕ) (h : Machine) (k : MachineKept n h) where
 
 -- the machine of k processors after a call, lent again
 pub machine-lent-again : (k : ℕ) (h : Machine) → 1 ≤ k → k ≤ 10 → MachineKept (k * 4096) h
-    → machine_verdict true h.central h.peripheral (record_of h.registers h.numbers) ≡ Call.Accepted
+    → machine_verdict true h.central h.peripheral (record_of h.registers h.numbers) ≡ Ok tt
 unfolding machine_verdict
 machine-lent-again k h l m kept =
     rw (

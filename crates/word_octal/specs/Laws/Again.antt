@@ -1,5 +1,5 @@
 -- The reader gives back the number that the writer wrote.
-use Rattle.std.specs.Prelude.{List, [], ◌∷◌, ◌++◌, ◌≡◌, refl, ℕ, zero, suc, ◌+◌, ◌-◌, ◌*◌, ◌/◌, ◌%◌, ◌^◌, ◌<◌, eqb}
+use Rattle.std.specs.Prelude.{Some, List, [], ◌∷◌, ◌++◌, ◌≡◌, refl, ℕ, zero, suc, ◌+◌, ◌-◌, ◌*◌, ◌/◌, ◌%◌, ◌^◌, ◌<◌, eqb}
 use Rattle.std.proofs.Common.{sym, ap, subst, ◌∙◌, add_assoc, add-mul, mul_assoc, mod-lt, mod-eq_of_lt, arith, eqb-true, le-leb, lit<, pow_pos, pow-add, shr_lt}
 use Rattle.std.proofs.lemmas.Nat.{mod-pow-add}
 use Rattle.std.proofs.Math.Pow.{split}
@@ -9,7 +9,6 @@ use Rattle.word_octal.specs.Text.{value_after, value_of}
 use Rattle.word_octal.specs.Write.{digits, width_in, octal}
 use Rattle.word_octal.specs.Laws.Read.{bytes_of, value_from, Octal, feed_digits, digits-then-space}
 use Rattle.word_octal.specs.declared.read.Fed.TheVariants.{More, Number}
-use Rattle.word_octal.specs.declared.text.Value.TheVariants.{Of}
 
 -- the last n octal digits of v, each as a number below 8
 unfoldable digit_values : ℕ → ℕ → List ℕ
@@ -76,14 +75,14 @@ unfolding octal
 read-octal v h = read-digits (width_in 21 v) v (width_positive 21 v) (width-holds 21 v (omega (arith, h))) h
 
 -- and so is one that is written with n digits, if these hold it, and read as a whole
-text-bytes : (u : ℕ) (ns : List ℕ) → Octal ns → value_after u (bytes_of ns) ≡ Of (value_from u ns)
+text-bytes : (u : ℕ) (ns : List ℕ) → Octal ns → value_after u (bytes_of ns) ≡ Some (value_from u ns)
 unfolding value_after bytes_of value_from
 text-bytes u [] o = refl
 text-bytes u (n ∷ ns) o =
     let e : 48 + n - 48 ≡ n = omega arith in
     rw (le-leb 48 (48 + n) (omega arith), le-leb (48 + n) 55 (omega (arith, o.0)), e) (text-bytes (u * 8 + n) ns o.1)
 
-pub read-text : (n v : ℕ) → v < 2 ^ (3 * n) → value_of (digits n v) ≡ Of v
+pub read-text : (n v : ℕ) → v < 2 ^ (3 * n) → value_of (digits n v) ≡ Some v
 read-text n v h =
     rw (bytes-are n v)
-    (text-bytes 0 (digit_values n v) (octal-values n v) ∙ ap (λ (x : ℕ). Of x) (values-are 0 n v ∙ rw (mod-eq_of_lt h) (omega arith)))
+    (text-bytes 0 (digit_values n v) (octal-values n v) ∙ ap (λ (x : ℕ). Some x) (values-are 0 n v ∙ rw (mod-eq_of_lt h) (omega arith)))

@@ -1,21 +1,20 @@
 -- `central_apply::apply::return_jump` meets its contract.
 use mathlib.Core.Path.{subst, sym, ◌∙◌}
+use Rattle.std.specs.Prelude.{Option}
 use Rattle.central_apply.specs.Apply.{return_jumped}
 use Rattle.central_field.specs.Laws.Address.{place-within}
 use Rattle.central_field.specs.Address.{Within}
-use Rattle.central_field.specs.declared.address.Place.{Place}
+use Rattle.central_field.specs.declared.address.Absolute.{Absolute}
 use Rattle.central_apply.proofs.apply.return_jump.Goals as goal
 
-pub index-n-requires : goal.index-n-requires
-index-n-requires c =
-    let args = c.args in
-    let convert = c.convert in
-    subst (λ (p : Place). Within args.b p) (sym convert.ensures ∙ c.in-Inside.is) (place-within _ _)
+pub write-requires : goal.write-requires
+write-requires c =
+    subst (λ (p : Option Absolute). Within c.args.field.now.bounds p) (sym c.convert.ensures ∙ c.in-Some.is) (place-within _ _)
 
-pub returns-in-Inside : goal.returns-in-Inside
+pub returns-clause-value : goal.returns-clause-value
 unfolding return_jumped
-returns-in-Inside c = rw (← c.convert.ensures, c.in-Inside.is, c.index-n.ensures.is)
+returns-clause-value c = rw (← c.convert.ensures, c.in-Some.is, c.write.ensures.written)
 
-pub returns-in-Outside : goal.returns-in-Outside
+pub returns-in_default-clause-value : goal.returns-in_default-clause-value
 unfolding return_jumped
-returns-in-Outside c = rw (← c.convert.ensures, c.in-Outside.is)
+returns-in_default-clause-value c = rw (← c.convert.ensures, c.in_default.is)

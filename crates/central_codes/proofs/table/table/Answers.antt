@@ -5,6 +5,6 @@ use Rattle.central_codes.specs.Table.{entry_of, follows_from}
 use Rattle.central_codes.proofs.table.table.Goals as goal
 
 -- the test, computed over all 512 entries
-pub returns : goal.returns
+pub invariant_of-result : goal.invariant_of-result
 unfolding is_long is_left_out is_fit parcels_of entry_of follows_from
-returns c = refl
+invariant_of-result c = record { by_rule = refl }

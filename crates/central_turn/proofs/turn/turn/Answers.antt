@@ -1,31 +1,23 @@
 -- `central_turn::turn::turn` meets its contract.
 use mathlib.Core.Path.{◌∙◌, sym, subst}
+use Rattle.std.specs.Prelude.{Option}
 use Rattle.central_field.specs.Address.{Within}
 use Rattle.central_turn.specs.Turn.{turn_of}
 use Rattle.central_field.specs.Laws.Address.{place-within, inside-below}
-use Rattle.central_field.specs.declared.address.Place.{Place}
+use Rattle.central_field.specs.declared.address.Absolute.{Absolute}
 use Rattle.central_turn.proofs.turn.turn.Goals as goal
 
-pub index-n-requires : goal.index-n-requires
-index-n-requires c =
-    let args = c.args in
-    let convert = c.convert in
-    subst (λ (p : Place). Within args.b p) (sym convert.ensures ∙ c.in-Inside.is) (place-within _ _)
+pub read-w-requires : goal.read-w-requires
+read-w-requires c =
+    subst (λ (p : Option Absolute). Within c.args.field.now.bounds p) (sym c.convert.ensures ∙ c.in-Some.is) (place-within _ _)
 
-pub run_word-requires : goal.run_word-requires
-run_word-requires c =
-    let pre = c.requires in
-    let convert = c.convert in
-    record { state_kept = pre.state_kept; fl_bound = pre.fl_bound; t_value = pre.t_value; p_lt_fl = inside-below _ _ _ (sym convert.ensures ∙ c.in-Inside.is) }
+pub run_word-requires-clause-p_lt_fl : goal.run_word-requires-clause-p_lt_fl
+run_word-requires-clause-p_lt_fl c = inside-below _ _ _ (sym c.convert.ensures ∙ c.in-Some.is)
 
-pub returns-in-Inside : goal.returns-in-Inside
+pub returns-clause-value : goal.returns-clause-value
 unfolding turn_of
-returns-in-Inside c =
-    let convert = c.convert in
-    let index = c.index-n in
-    let run-word = c.run_word in
-    rw (← convert.ensures, c.in-Inside.is, ← index.ensures.is) run-word.ensures
+returns-clause-value c = rw (← c.convert.ensures, c.in-Some.is, ← c.read-w.ensures) c.run_word.ensures.value
 
-pub returns-in-Outside : goal.returns-in-Outside
+pub returns-in_default-clause-value : goal.returns-in_default-clause-value
 unfolding turn_of
-returns-in-Outside c = rw (← c.convert.ensures, c.in-Outside.is, c.number.ensures)
+returns-in_default-clause-value c = rw (← c.convert.ensures, c.in_default.is)

@@ -1,84 +1,51 @@
 -- `console_line::form::line_of` meets its contract.
-use mathlib.Core.Path.{refl}
-use Rattle.console_line.specs.Laws.Branches.{tested, line-words, line_at, line_word, line-job, line-stint, line-none}
-use Rattle.console_line.specs.Laws.Text.{begins-length}
+use mathlib.Core.Path.{sym, ◌∙◌}
+use Rattle.console_line.specs.Laws.Branches.{said, not-said, line-words, line_at, line_word, line-job, line-stint, line-none}
+use Rattle.console_line.specs.declared.form.Line.TheVariants.{Words, At, Word, Job}
 use Rattle.console_line.proofs.form.line_of.Goals as goal
 
-pub slice_bounds-words_line-count : goal.slice_bounds-words_line-count
-slice_bounds-words_line-count c = begins-length _ _ (tested c.begins_with.ensures c.if-begins_with.true)
+pub returns-in_err-number_of : goal.returns-in_err-number_of
+returns-in_err-number_of c =
+    let line = line-words c.args.text.now c.in-Some.ensures.cases in
+    not-said Words line c.number_of.ensures c.in_err-number_of.was c.from_residual.ensures
 
-pub slice_bounds-words_line-start : goal.slice_bounds-words_line-start
-slice_bounds-words_line-start c = begins-length _ _ (tested c.begins_with.ensures c.if-begins_with.true)
+pub returns-in-Some : goal.returns-in-Some
+returns-in-Some c =
+    let line = line-words c.args.text.now c.in-Some.ensures.cases in
+    said Words line c.number_of.ensures c.in_ok-number_of.was
 
-pub returns-then-begins_with : goal.returns-then-begins_with
-returns-then-begins_with c =
-    line-words _
-    (tested c.begins_with.ensures c.if-begins_with.true)
-    c.words_line.ensures
+pub returns-in_err-number_of-2 : goal.returns-in_err-number_of-2
+returns-in_err-number_of-2 c =
+    let line = line_at c.args.text.now c.in_default.ensures.cases c.in-Some-strip_prefix.ensures.cases in
+    not-said At line c.number_of-in-Some-strip_prefix.ensures c.in_err-number_of-2.was c.from_residual-in_err-number_of-2.ensures
 
-pub slice_bounds-at_line-count : goal.slice_bounds-at_line-count
-slice_bounds-at_line-count c = begins-length _ _ (tested c.begins_with-2.ensures c.if-begins_with-2.true)
+pub returns-in-Some-strip_prefix : goal.returns-in-Some-strip_prefix
+returns-in-Some-strip_prefix c =
+    let line = line_at c.args.text.now c.in_default.ensures.cases c.in-Some-strip_prefix.ensures.cases in
+    said At line c.number_of-in-Some-strip_prefix.ensures c.in_ok-number_of-2.was
 
-pub slice_bounds-at_line-start : goal.slice_bounds-at_line-start
-slice_bounds-at_line-start c = begins-length _ _ (tested c.begins_with-2.ensures c.if-begins_with-2.true)
+pub returns-in_err-word_of : goal.returns-in_err-word_of
+returns-in_err-word_of c =
+    let line = line_word c.args.text.now c.in_default.ensures.cases c.in_default-strip_prefix.ensures.cases c.in-Some-strip_prefix-2.ensures.cases in
+    not-said Word line c.word_of.ensures c.in_err-word_of.was c.from_residual-in_err-word_of.ensures
 
-pub returns-then-begins_with-2 : goal.returns-then-begins_with-2
-returns-then-begins_with-2 c =
-    line_at _
-    (tested c.begins_with.ensures c.if-begins_with.false)
-    (tested c.begins_with-2.ensures c.if-begins_with-2.true)
-    c.at_line.ensures
+pub returns-in-Some-strip_prefix-2 : goal.returns-in-Some-strip_prefix-2
+returns-in-Some-strip_prefix-2 c =
+    let line = line_word c.args.text.now c.in_default.ensures.cases c.in_default-strip_prefix.ensures.cases c.in-Some-strip_prefix-2.ensures.cases in
+    said Word line c.word_of.ensures c.in_ok-word_of.was
 
-pub slice_bounds-word_line-count : goal.slice_bounds-word_line-count
-slice_bounds-word_line-count c = begins-length _ _ (tested c.begins_with-3.ensures c.if-begins_with-3.true)
+pub returns-in_err-number_of-3 : goal.returns-in_err-number_of-3
+returns-in_err-number_of-3 c =
+    let line = line-job c.args.text.now c.in_default.ensures.cases c.in_default-strip_prefix.ensures.cases c.in_default-strip_prefix-2.ensures.cases c.in-Some-strip_prefix-3.ensures.cases in
+    not-said Job line c.number_of-in-Some-strip_prefix-3.ensures c.in_err-number_of-3.was c.from_residual-in_err-number_of-3.ensures
 
-pub slice_bounds-word_line-start : goal.slice_bounds-word_line-start
-slice_bounds-word_line-start c = begins-length _ _ (tested c.begins_with-3.ensures c.if-begins_with-3.true)
+pub returns-in-Some-strip_prefix-3 : goal.returns-in-Some-strip_prefix-3
+returns-in-Some-strip_prefix-3 c =
+    let line = line-job c.args.text.now c.in_default.ensures.cases c.in_default-strip_prefix.ensures.cases c.in_default-strip_prefix-2.ensures.cases c.in-Some-strip_prefix-3.ensures.cases in
+    said Job line c.number_of-in-Some-strip_prefix-3.ensures c.in_ok-number_of-3.was
 
-pub returns-then-begins_with-3 : goal.returns-then-begins_with-3
-returns-then-begins_with-3 c =
-    line_word _
-    (tested c.begins_with.ensures c.if-begins_with.false)
-    (tested c.begins_with-2.ensures c.if-begins_with-2.false)
-    (tested c.begins_with-3.ensures c.if-begins_with-3.true)
-    c.word_line.ensures
-
-pub slice_bounds-job_line-count : goal.slice_bounds-job_line-count
-slice_bounds-job_line-count c = begins-length _ _ (tested c.begins_with-4.ensures c.if-begins_with-4.true)
-
-pub slice_bounds-job_line-start : goal.slice_bounds-job_line-start
-slice_bounds-job_line-start c = begins-length _ _ (tested c.begins_with-4.ensures c.if-begins_with-4.true)
-
-pub returns-then-begins_with-4 : goal.returns-then-begins_with-4
-returns-then-begins_with-4 c =
-    line-job _
-    (tested c.begins_with.ensures c.if-begins_with.false)
-    (tested c.begins_with-2.ensures c.if-begins_with-2.false)
-    (tested c.begins_with-3.ensures c.if-begins_with-3.false)
-    (tested c.begins_with-4.ensures c.if-begins_with-4.true)
-    c.job_line.ensures
-
-pub slice_bounds-stint_line-count : goal.slice_bounds-stint_line-count
-slice_bounds-stint_line-count c = begins-length _ _ (tested c.begins_with-5.ensures c.if-begins_with-5.true)
-
-pub slice_bounds-stint_line-start : goal.slice_bounds-stint_line-start
-slice_bounds-stint_line-start c = begins-length _ _ (tested c.begins_with-5.ensures c.if-begins_with-5.true)
-
-pub returns-then-begins_with-5 : goal.returns-then-begins_with-5
-returns-then-begins_with-5 c =
-    line-stint _
-    (tested c.begins_with.ensures c.if-begins_with.false)
-    (tested c.begins_with-2.ensures c.if-begins_with-2.false)
-    (tested c.begins_with-3.ensures c.if-begins_with-3.false)
-    (tested c.begins_with-4.ensures c.if-begins_with-4.false)
-    (tested c.begins_with-5.ensures c.if-begins_with-5.true)
-    c.stint_line.ensures
+pub returns-in-Some-strip_prefix-4 : goal.returns-in-Some-strip_prefix-4
+returns-in-Some-strip_prefix-4 c = c.stint_of.ensures ∙ sym (line-stint c.args.text.now c.in_default.ensures.cases c.in_default-strip_prefix.ensures.cases c.in_default-strip_prefix-2.ensures.cases c.in_default-strip_prefix-3.ensures.cases c.in-Some-strip_prefix-4.ensures.cases)
 
 pub returns : goal.returns
-returns c =
-    line-none _
-    (tested c.begins_with.ensures c.if-begins_with.false)
-    (tested c.begins_with-2.ensures c.if-begins_with-2.false)
-    (tested c.begins_with-3.ensures c.if-begins_with-3.false)
-    (tested c.begins_with-4.ensures c.if-begins_with-4.false)
-    (tested c.begins_with-5.ensures c.if-begins_with-5.false) refl
+returns c = sym (line-none c.args.text.now c.in_default.ensures.cases c.in_default-strip_prefix.ensures.cases c.in_default-strip_prefix-2.ensures.cases c.in_default-strip_prefix-3.ensures.cases c.in_default-strip_prefix-4.ensures.cases)

@@ -3,15 +3,15 @@ use mathlib.Core.Path.{◌∙◌, sym}
 use borrow.Author.Rules.{rules}
 use Rattle.console_reader.specs.Laws.Verdict.{accepted-reader}
 use Rattle.console_reason.specs.Reason.{explain_answer}
+use Rattle.console_reason.specs.Laws.Text.{explained-inside}
 use Rattle.console_reason.proofs.explain.explain.Goals as goal
 
 pub explain_input-requires : goal.explain_input-requires
-explain_input-requires c = accepted-reader c.args.t.reader _ _ (sym c.reader_verdict.ensures ∙ c.in-Accepted.is) (search rules)
+explain_input-requires c = accepted-reader c.args.tracker.reader _ _ (sym c.verdict.ensures ∙ c.in_ok-verdict.was) (search rules)
 
-pub returns-in-Accepted : goal.returns-in-Accepted
+pub returns-clause-explained : goal.returns-clause-explained
 unfolding explain_answer
-returns-in-Accepted c = rw (← c.reader_verdict.ensures, c.in-Accepted.is) c.explain_input.ensures
+returns-clause-explained c = rw (← c.verdict.ensures, c.in_ok-verdict.was) c.explain_input.ensures
 
-pub returns-in-Refused : goal.returns-in-Refused
-unfolding explain_answer
-returns-in-Refused c = rw (← c.reader_verdict.ensures, c.in-Refused.is)
+pub returns-clause-within : goal.returns-clause-within
+returns-clause-within c = explained-inside _ _ _ _ _ (returns-clause-explained c)

@@ -7,4 +7,4 @@ pub returns-then-out-lt-REASON_BYTES : goal.returns-then-out-lt-REASON_BYTES
 returns-then-out-lt-REASON_BYTES c = reason-short _ _ (omega (arith, c.if-out-lt-REASON_BYTES.true))
 
 pub returns : goal.returns
-returns c = rw (← c.found_at_end-found.ensures) (reason-written (omega (arith, c.if-out-lt-REASON_BYTES.false)) c.write_reason-n.ensures)
+returns c = rw (← c.found_at_end-found.ensures) (reason-written (omega (arith, c.if-out-lt-REASON_BYTES.false)) c.print_reason.ensures)

@@ -5,6 +5,3 @@ use Rattle.console_text.proofs.pieces.decimal_digits.Given as goal
 
 abbrev pub invariant-loop-at : goal.invariant-loop-at
 invariant-loop-at l = DecimalLeft (length l.initial.buffer) l.v l.buffer l.at l.rest
-
-abbrev pub decreases-loop-at : goal.decreases-loop-at
-decreases-loop-at l = l.at

@@ -1,5 +1,5 @@
 -- `exchange_package::package::package_word` meets its contract.
-use borrow.Author.Tests.{lt-ltb, le-ltb}
+use borrow.Author.Tests.{lt-ltb}
 use lib.ListN.{get_or}
 use Rattle.central_registers.specs.Registers.{a_of, b_of}
 use Rattle.exchange_package.specs.Package.{controls, package_word}
@@ -17,10 +17,6 @@ returns-then-n-lt8 c =
     let w = c.requires.1 in
     rw (
       lt-ltb n 8 h,
-      c.control-upper.ensures,
+      c.control.ensures,
     )
     (three-fields (get_or (controls r) n 0) (a_of r.registers n) (b_of r.registers n) (control-width r w n) (a-width r w n h) (b-width r w n h))
-
-pub returns : goal.returns
-unfolding package_word
-returns c = rw (le-ltb c.args.n 8 c.if-n-lt8.false)

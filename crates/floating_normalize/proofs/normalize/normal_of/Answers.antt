@@ -1,11 +1,6 @@
 -- `floating_normalize::normalize::normal_of` meets its contract.
-use native.Mathlib.Omega.{arith}
-use Rattle.floating_normalize.specs.Laws.Places.{places-le}
 use Rattle.floating_normalize.proofs.Steps.{shifted-lt, normal-is}
 use Rattle.floating_normalize.proofs.normalize.normal_of.Goals as goal
-
-pub overflow_shl-x : goal.overflow_shl-x
-overflow_shl-x c = omega (arith, c.left_places-n.ensures, places-le c.args.x.size)
 
 pub word_of-requires : goal.word_of-requires
 word_of-requires c = shifted-lt _ c.requires _ c.left_places-n.ensures

@@ -1,32 +1,28 @@
 -- `floating_sum::sums::finite_sum` meets its contract.
+use mathlib.Core.Path.{◌≡◌, sym, ap, ap₂, ◌∙◌, subst}
+use Prim.Native.Nat.{◌^◌, ◌<◌}
 use native.Mathlib.Omega.{arith}
-use Rattle.floating_sum.proofs.Steps.{placed-cut, sum-cut, sum_is}
+use Rattle.floating_word.specs.Halves.{whole}
+use Rattle.floating_word.specs.Laws.Halves.{whole-halves}
+use Rattle.floating_sum.specs.Sums.{Coefficient, coefficient, added_of, moved_of, finite_sum}
+use Rattle.floating_sum.specs.Halves.{aligned_in, sum_in, Cut97, cut_total}
+use Rattle.floating_sum.specs.Laws.Sums.{added-lt}
 use Rattle.floating_sum.proofs.sums.finite_sum.Goals as goal
 
-pub signed_sum-s-requires : goal.signed_sum-s-requires
-signed_sum-s-requires c =
-    let pre = c.requires in
-    let placed = c.placed-a in
-    record { cut = placed-cut _ _ _ pre.number_fits placed.ensures; cut_2 = placed-cut _ _ _ pre.number_fits_2 c.placed-b.ensures }
-
-pub moved-requires : goal.moved-requires
-moved-requires c =
-    let placed = c.placed-a in
-    let placed2 = c.placed-b in
-    let signed-sum = c.signed_sum-s in
-    let pre = c.requires in
-    record {
-      cut97 = sum-cut _ _ _ _ _ _ _ placed.ensures placed2.ensures signed-sum.ensures pre.number_fits pre.number_fits_2;
-      biased_bound = omega (arith, c.larger.ensures, pre.number_fits.biased-lt, pre.number_fits_2.biased-lt);
-    }
+pub moved-requires-clause-cut97 : goal.moved-requires-clause-cut97
+moved-requires-clause-cut97 c =
+    let a = c.beside.result in
+    let b = c.beside-2.result in
+    let ca = a.size.cut in
+    let cb = b.size.cut in
+    let l : (added_of (aligned_in a) (aligned_in b)).size < 2 ^ 97 =
+    added-lt a.minus b.minus (whole a.size.halves) (whole b.size.halves) (omega (arith, ca.high_lt, ca.low-lt)) (omega (arith, cb.high_lt, cb.low-lt))
+    in
+    subst Cut97 (sym c.plus-s.ensures) (record { high_lt = omega arith; low-lt = omega arith })
 
 pub returns : goal.returns
+unfolding finite_sum
 returns c =
-    let placed = c.placed-a in
-    let placed2 = c.placed-b in
-    let signed-sum = c.signed_sum-s in
-    let behind = c.behind in
-    let behind2 = c.behind-2 in
-    let larger = c.larger in
-    sum_is _ _ _ _ _ _ _ placed.ensures placed2.ensures signed-sum.ensures _ _ behind.ensures behind2.ensures larger.ensures
-    c.moved.ensures
+    let n : Coefficient = added_of (aligned_in c.beside.result) (aligned_in c.beside-2.result) in
+    let s : sum_in c.plus-s.result ≡ n = ap sum_in c.plus-s.ensures ∙ ap (coefficient n.minus) (whole-halves n.size) in
+    c.moved.ensures ∙ ap cut_total (ap₂ moved_of (s ∙ ap₂ added_of c.beside.ensures c.beside-2.ensures) c.max.ensures)

@@ -1,11 +1,6 @@
--- `host_answer::results::store_stints` meets its contract.
-use Prim.Native.Nat.{◌-◌}
 use Rattle.base_lists.specs.Laws.Rows.{RowsStored}
 use Rattle.host_answer.specs.Results.{stint_row}
 use Rattle.host_answer.proofs.results.store_stints.Given as goal
 
 abbrev pub invariant-loop-i : goal.invariant-loop-i
 invariant-loop-i l = RowsStored 0 2 (stint_row l.turns l.stops) l.n l.initial.res l.res l.i
-
-abbrev pub decreases-loop-i : goal.decreases-loop-i
-decreases-loop-i l = l.n - l.i

@@ -1,17 +1,14 @@
 -- `host_calls::central_calls::tozhenab_run_program` meets its contract.
-use Rattle.host_calls.specs.Laws.Central.{program-is, program-short}
+use Rattle.host_calls.specs.Laws.Central.{program-made, program-refused, program-short}
 use Rattle.host_calls.proofs.central_calls.tozhenab_run_program.Goals as goal
 
 pub returns-then-res-lt2 : goal.returns-then-res-lt2
-returns-then-res-lt2 c =
-    let central-lent = c.central_lent-c in
-    let if1 = c.if-res-lt2 in
-    let host-verdict = c.host_verdict-verdict in
-    program-short _ _ _ _ _ _ _ _ central-lent.ensures if1.true host-verdict.ensures c.short_number.ensures
+returns-then-res-lt2 c = program-short _ _ _ _ _ _ _ _ c.lent-c.ensures c.if-res-lt2.true c.host_verdict.ensures c.short_number.ensures
 
-pub returns : goal.returns
-returns c =
-    let central-lent = c.central_lent-c in
-    let if1 = c.if-res-lt2 in
-    let run-program = c.run_program-a in
-    program-is _ _ _ _ central-lent.ensures _ _ _ _ _ if1.false run-program.ensures c.number.ensures
+pub returns-in-Ok : goal.returns-in-Ok
+returns-in-Ok c =
+    program-made _ _ _ _ c.lent-c.ensures _ c.if-res-lt2.false _ _ _ c.run_program.ensures _ _ c.in-Ok.is c.stop_number.ensures
+
+pub returns-in-Err : goal.returns-in-Err
+returns-in-Err c =
+    program-refused _ _ _ _ c.lent-c.ensures _ c.if-res-lt2.false _ _ _ c.run_program.ensures _ _ c.in-Err.is c.number.ensures

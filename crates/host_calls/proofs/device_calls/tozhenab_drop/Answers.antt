@@ -2,15 +2,8 @@
 use Rattle.host_calls.specs.Laws.Device.{drop-stores, drop-is}
 use Rattle.host_calls.proofs.device_calls.tozhenab_drop.Goals as goal
 
-pub keep_channel-requires : goal.keep_channel-requires
-keep_channel-requires c =
-    let channel-lent = c.channel_lent-c in
-    let drop = c.drop-a in
-    drop-stores _ _ channel-lent.ensures _ drop.ensures
+pub keep-requires : goal.keep-requires
+keep-requires c = drop-stores _ _ c.lent-c.ensures _ c.drop.ensures
 
 pub returns : goal.returns
-returns c =
-    let channel-lent = c.channel_lent-c in
-    let keep-channel = c.keep_channel in
-    let drop = c.drop-a in
-    drop-is _ _ channel-lent.ensures _ _ keep-channel.ensures drop.ensures
+returns c = drop-is _ _ c.lent-c.ensures _ _ c.keep.ensures c.drop.ensures

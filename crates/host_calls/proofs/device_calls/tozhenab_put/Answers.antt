@@ -2,15 +2,8 @@
 use Rattle.host_calls.specs.Laws.Device.{put-stores, put_is}
 use Rattle.host_calls.proofs.device_calls.tozhenab_put.Goals as goal
 
-pub keep_channel-requires : goal.keep_channel-requires
-keep_channel-requires c =
-    let channel-lent = c.channel_lent-c in
-    let put = c.put-a in
-    put-stores _ _ channel-lent.ensures _ _ put.ensures
+pub keep-requires : goal.keep-requires
+keep-requires c = put-stores _ _ c.lent-c.ensures _ _ c.put.ensures
 
 pub returns : goal.returns
-returns c =
-    let channel-lent = c.channel_lent-c in
-    let keep-channel = c.keep_channel in
-    let put = c.put-a in
-    put_is _ _ channel-lent.ensures _ _ keep-channel.ensures _ put.ensures
+returns c = put_is _ _ c.lent-c.ensures _ _ c.keep.ensures _ c.put.ensures

@@ -1,10 +1,10 @@
--- `host_record::read::channels_in` meets its contract: the array is tabulated as far as the loop has come.
-use Rattle.std.proofs.Common.{refl}
-use Rattle.base_lists.specs.Laws.Indexed.{none-tabulated, one-tabulated}
+use Rattle.std.proofs.Common.{rules, ◌≡◌}
+use Rattle.base_lists.specs.Laws.Tested.{made-tabulated}
+use Rattle.host_record.specs.Layout.{channel_in_machine}
+use Rattle.peripheral_channel.specs.Codes.{disconnected}
 use Rattle.host_record.proofs.read.channels_in.Goals as goal
 
-pub loop-i-init : goal.loop-i-init
-loop-i-init c = none-tabulated refl
-
-pub loop-i-preserved : goal.loop-i-preserved
-loop-i-preserved c = one-tabulated c.loop-i.invariant c.loop-i-test.true c.channel_in-c.ensures
+pub returns : goal.returns
+returns c =
+    made-tabulated _ (channel_in_machine c.args.r.now) (λ f. f.0.now ≡ c.args.r.now)
+    (λ p q i y h call. search rules) _ _ 12 disconnected (search rules) c.from_fn.ensures.items

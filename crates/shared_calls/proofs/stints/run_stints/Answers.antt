@@ -1,23 +1,13 @@
 -- `shared_calls::stints::run_stints` meets its contract.
-use Prim.Native.Nat.{◌-◌}
 use native.Mathlib.Omega.{arith}
-use Rattle.shared_calls.specs.Laws.Stints.{stints-going-start, stints-going-end, stint-allowed, stints-going-on}
+use Rattle.shared_calls.specs.Laws.Stints.{stints-going-start, stints-going-end, stint-allowed, results-going-on}
 use Rattle.shared_calls.proofs.stints.run_stints.Goals as goal
 
 pub loop-k-init : goal.loop-k-init
 loop-k-init c = stints-going-start _ _ _ _ _ c.requires
 
-pub offset_bounds-stint_jobs-k : goal.offset_bounds-stint_jobs-k
-offset_bounds-stint_jobs-k c = omega (arith, c.loop-k.invariant.may.most, c.loop-k-test.true)
-
-pub bounds-stint_jobs-k : goal.bounds-stint_jobs-k
-bounds-stint_jobs-k c = omega (arith, c.loop-k-test.true)
-
 pub package_of-at-requires : goal.package_of-at-requires
 package_of-at-requires c = c.loop-k.invariant.may.listed _ (omega (arith, c.loop-k-test.true))
-
-pub offset_bounds-stint_turns-k : goal.offset_bounds-stint_turns-k
-offset_bounds-stint_turns-k c = omega (arith, c.loop-k.invariant.may.most, c.loop-k-test.true)
 
 pub bounds-stint_turns-k : goal.bounds-stint_turns-k
 bounds-stint_turns-k c =
@@ -27,33 +17,13 @@ pub stint-o-requires : goal.stint-o-requires
 stint-o-requires c =
     stint-allowed _ _ _ _ _ _ _ _ _ _ c.loop-k.invariant _ (omega (arith, c.loop-k-test.true)) _ c.package_of-at.ensures
 
-pub offset_bounds-turns-k : goal.offset_bounds-turns-k
-offset_bounds-turns-k c =
+pub bounds-results-k : goal.bounds-results-k
+bounds-results-k c =
     omega (arith, c.loop-k.invariant.may.most, c.loop-k-test.true)
-
-pub bounds-turns-k : goal.bounds-turns-k
-bounds-turns-k c =
-    omega (arith, c.loop-k.invariant.may.most, c.loop-k-test.true)
-
-pub offset_bounds-stops-k : goal.offset_bounds-stops-k
-offset_bounds-stops-k c =
-    omega (arith, c.loop-k.invariant.may.most, c.loop-k-test.true)
-
-pub bounds-stops-k : goal.bounds-stops-k
-bounds-stops-k c =
-    omega (arith, c.loop-k.invariant.may.most, c.loop-k-test.true)
-
-pub overflow_add-k : goal.overflow_add-k
-overflow_add-k c =
-    omega (arith, c.loop-k.invariant.may.most, c.loop-k-test.true)
-
-pub loop-k-smaller : goal.loop-k-smaller
-loop-k-smaller c =
-    omega (arith, c.loop-k-test.true)
 
 pub loop-k-preserved : goal.loop-k-preserved
 loop-k-preserved c =
-    stints-going-on _ _ _ _ _ _ _ _ _ _ c.loop-k.invariant c.loop-k-test.true _ c.package_of-at.ensures _ c.stint-o.ensures
+    results-going-on _ _ _ _ _ _ _ _ _ c.loop-k.invariant c.loop-k-test.true _ c.package_of-at.ensures _ _ c.stint-o.ensures
 
 pub shape_of-m : goal.shape_of-m
 shape_of-m c = c.loop-k.invariant.same_size

@@ -1,33 +1,21 @@
 -- `shared_fault::owners::first_field_past_end` meets its contract.
-use Rattle.std.proofs.Common.{sym, ◌∙◌}
-use Prim.Native.Nat.{◌-◌}
-use native.Mathlib.Omega.{arith}
-use Rattle.base_lists.specs.Laws.Indexed.{none_yet, one_more}
+use Rattle.std.proofs.Common.{rules, tests, true, false, ◌≡◌, ◌∙◌}
+use Rattle.std.proofs.lemmas.Iterator.{YieldsList-from_slice, IsFirst-from_position}
+use Rattle.std.proofs.lemmas.Iterator.Adapters.{serves_from_places}
 use Rattle.exchange_jump.specs.Jump.{field_inside}
-use Rattle.shared_verdict.specs.Laws.Owners.{package-inside}
-use Rattle.shared_fault.proofs.Search.{found, none_found}
+use Rattle.shared_verdict.specs.Laws.Owners.{inside-at}
+use Rattle.shared_fault.proofs.Search.{found-position}
 use Rattle.shared_fault.proofs.owners.first_field_past_end.Goals as goal
 
-pub loop-i-init : goal.loop-i-init
-loop-i-init c = none_yet _ _
-
-pub field_inside-requires : goal.field_inside-requires
-field_inside-requires c =
-    package-inside c.args.m.now c.args.jobs.now _ c.loop-i-test.true c.requires
-
-pub returns-then-not-field_inside : goal.returns-then-not-field_inside
-returns-then-not-field_inside c =
-    found _ _ _ c.loop-i.invariant c.loop-i-test.true (sym c.field_inside.ensures ∙ c.if-not-field_inside.true)
-
-pub overflow_add-i : goal.overflow_add-i
-overflow_add-i c = omega arith
-
-pub loop-i-smaller : goal.loop-i-smaller
-loop-i-smaller c = omega arith
-
-pub loop-i-preserved : goal.loop-i-preserved
-loop-i-preserved c =
-    one_more _ _ _ c.loop-i.invariant c.loop-i-test.true (sym c.field_inside.ensures ∙ c.if-not-field_inside.false)
+pub position-requires-clause-callable : goal.position-requires-clause-callable
+position-requires-clause-callable c =
+    serves_from_places (YieldsList-from_slice c.args.jobs.now cc) (λ x q h. search rules)
+    (λ x k l e. let inside = inside-at c.args.m.now c.args.jobs.now c.requires x.now k l e in search rules)
 
 pub returns : goal.returns
-returns c = none_found _ _ _ c.loop-i.invariant c.loop-i-test.false
+returns c =
+    let test = field_inside c.args.m.now in
+    let jobs = c.args.jobs.now in
+    c.unwrap_or.ensures
+    ∙ found-position test jobs c.position.result
+    (IsFirst-from_position _ _ c.position.result (λ x. test x ≡ false) (λ x. test x ≡ true) c.position.ensures.ran (YieldsList-from_slice jobs c.iter.ensures.rest) (λ x q k. search (rules, tests)) (λ x q k. search (rules, tests)))

@@ -5,12 +5,12 @@ use Rattle.shared_fault.proofs.owners.pair_fault.Goals as goal
 
 pub load-second-requires : goal.load-second-requires
 load-second-requires c =
-    package-inside c.args.m.now c.args.jobs.now _ c.requires.i_in_bounds.1 c.requires.inside.packages
+    package-inside c.args.p.now.memory.now c.args.p.now.jobs.now _ c.requires.1 c.args.p.now.inside.packages
 
 pub shares_word-requires : goal.shares_word-requires
 shares_word-requires c =
     let pre = c.requires in
-    rw c.load-second.ensures (package-end pre.inside _ pre.i_in_bounds.0, field_end pre.inside _ pre.i_in_bounds.1)
+    rw c.load-second.ensures (package-end c.args.p.now.inside _ pre.0, field_end c.args.p.now.inside _ pre.1)
 
 pub returns-then-shares_word : goal.returns-then-shares_word
 unfolding pair_fault
@@ -19,7 +19,7 @@ returns-then-shares_word c = rw (← c.load-second.ensures, ← c.shares_word.en
 pub shares_word-requires-2 : goal.shares_word-requires-2
 shares_word-requires-2 c =
     let pre = c.requires in
-    (package-end pre.inside _ pre.i_in_bounds.0, package-end pre.inside _ pre.i_in_bounds.1)
+    (package-end c.args.p.now.inside _ pre.0, package-end c.args.p.now.inside _ pre.1)
 
 pub returns-then-shares_word-2 : goal.returns-then-shares_word-2
 unfolding pair_fault

@@ -1,31 +1,20 @@
 -- `shared_verdict::owners::fields_inside` meets its contract.
-use Rattle.std.proofs.Common.{sym, ◌∙◌}
-use Prim.Native.Nat.{◌-◌}
-use native.Mathlib.Omega.{arith}
-use Rattle.base_lists.specs.Laws.Indexed.{none_yet, one_more, all-passed, one-fails}
+use Rattle.std.proofs.Common.{rules, tests, refl, ◌∙◌, length}
+use Rattle.std.proofs.lemmas.Iterator.{YieldsList-from_slice}
+use Rattle.std.proofs.lemmas.Iterator.Search.{all_from_yields_List}
+use Rattle.base_lists.specs.Laws.Tested.{all-listed}
+use Rattle.std.proofs.lemmas.Iterator.Adapters.{serves_from_places}
+use Rattle.shared_verdict.specs.Laws.Owners.{inside-at}
 use Rattle.exchange_jump.specs.Jump.{field_inside}
-use Rattle.shared_verdict.specs.Laws.Owners.{package-inside}
 use Rattle.shared_verdict.proofs.owners.fields_inside.Goals as goal
 
-pub loop-i-init : goal.loop-i-init
-loop-i-init c = none_yet _ _
-
-pub field_inside-requires : goal.field_inside-requires
-field_inside-requires c =
-    package-inside c.args.m.now c.args.jobs.now _ c.loop-i-test.true c.requires
-
-pub returns-then-not-field_inside : goal.returns-then-not-field_inside
-returns-then-not-field_inside c = one-fails _ _ _ c.loop-i-test.true (sym c.field_inside.ensures ∙ c.if-not-field_inside.true)
-
-pub overflow_add-i : goal.overflow_add-i
-overflow_add-i c = omega arith
-
-pub loop-i-smaller : goal.loop-i-smaller
-loop-i-smaller c = omega arith
-
-pub loop-i-preserved : goal.loop-i-preserved
-loop-i-preserved c =
-    one_more _ _ _ c.loop-i.invariant c.loop-i-test.true (sym c.field_inside.ensures ∙ c.if-not-field_inside.false)
+pub all-requires-clause-callable : goal.all-requires-clause-callable
+all-requires-clause-callable c =
+    serves_from_places (YieldsList-from_slice c.args.jobs.now cc) (λ x q h. search rules)
+    (λ x k l e. let inside = inside-at c.args.m.now c.args.jobs.now c.requires x.now k l e in search rules)
 
 pub returns : goal.returns
-returns c = all-passed _ _ _ c.loop-i.invariant c.loop-i-test.false
+returns c =
+    let test = field_inside c.args.m.now in
+    let jobs = c.args.jobs.now in
+    all_from_yields_List test _ _ _ c.all.ensures.ran (YieldsList-from_slice jobs cc) (λ x b q k. search (rules, tests)) ∙ all-listed test 0 jobs (length jobs) refl

@@ -1,34 +1,21 @@
 -- `shared_verdict::owners::packages_clean` meets its contract.
-use mathlib.Core.Bool.{not}
-use mathlib.Core.Path.{sym, ◌∙◌, ap}
-use Prim.Native.Nat.{◌-◌}
-use native.Mathlib.Omega.{arith}
-use Rattle.base_lists.specs.Laws.Indexed.{none_yet, one_more, all-passed, one-fails}
+use Rattle.std.proofs.Common.{rules, tests, refl, ◌∙◌, length}
+use Rattle.std.proofs.lemmas.Iterator.{YieldsList-from_slice}
+use Rattle.std.proofs.lemmas.Iterator.Search.{all_from_yields_List}
+use Rattle.base_lists.specs.Laws.Tested.{all-listed}
+use Rattle.std.proofs.lemmas.Iterator.Adapters.{serves_from_places}
+use Rattle.shared_verdict.specs.Laws.Owners.{inside-at}
 use Rattle.exchange_jump.specs.Jump.{package_clean}
-use Rattle.shared_verdict.specs.Laws.Owners.{package-inside}
 use Rattle.shared_verdict.proofs.owners.packages_clean.Goals as goal
 
-pub loop-i-init : goal.loop-i-init
-loop-i-init c = none_yet _ _
-
-pub has_stray-requires : goal.has_stray-requires
-has_stray-requires c =
-    package-inside c.args.m.now c.args.jobs.now _ c.loop-i-test.true c.requires
-
-pub returns-then-has_stray : goal.returns-then-has_stray
-unfolding package_clean
-returns-then-has_stray c = one-fails _ _ _ c.loop-i-test.true (ap not (sym c.has_stray.ensures ∙ c.if-has_stray.true))
-
-pub overflow_add-i : goal.overflow_add-i
-overflow_add-i c = omega arith
-
-pub loop-i-smaller : goal.loop-i-smaller
-loop-i-smaller c = omega arith
-
-pub loop-i-preserved : goal.loop-i-preserved
-unfolding package_clean
-loop-i-preserved c =
-    one_more _ _ _ c.loop-i.invariant c.loop-i-test.true (ap not (sym c.has_stray.ensures ∙ c.if-has_stray.false))
+pub all-requires-clause-callable : goal.all-requires-clause-callable
+all-requires-clause-callable c =
+    serves_from_places (YieldsList-from_slice c.args.jobs.now cc) (λ x q h. search rules)
+    (λ x k l e. let inside = inside-at c.args.m.now c.args.jobs.now c.requires x.now k l e in search rules)
 
 pub returns : goal.returns
-returns c = all-passed _ _ _ c.loop-i.invariant c.loop-i-test.false
+unfolding package_clean
+returns c =
+    let test = package_clean c.args.m.now in
+    let jobs = c.args.jobs.now in
+    all_from_yields_List test _ _ _ c.all.ensures.ran (YieldsList-from_slice jobs cc) (λ x b q k. search (rules, tests)) ∙ all-listed test 0 jobs (length jobs) refl

@@ -1,28 +1,14 @@
 -- `shared_verdict::owners::packages_inside` meets its contract.
-use Rattle.std.proofs.Common.{sym, ◌∙◌}
-use Prim.Native.Nat.{◌-◌}
-use native.Mathlib.Omega.{arith}
-use Rattle.base_lists.specs.Laws.Indexed.{none_yet, one_more, all-passed, one-fails}
+use Rattle.std.proofs.Common.{rules, tests, refl, ◌∙◌, length}
+use Rattle.std.proofs.lemmas.Iterator.{YieldsList-from_slice}
+use Rattle.std.proofs.lemmas.Iterator.Search.{all_from_yields_List}
+use Rattle.base_lists.specs.Laws.Tested.{all-listed}
 use Rattle.exchange_jump.specs.Jump.{package_inside}
 use Rattle.shared_verdict.proofs.owners.packages_inside.Goals as goal
 
-pub loop-i-init : goal.loop-i-init
-loop-i-init c = none_yet _ _
-
-pub returns-then-not-package_is_inside : goal.returns-then-not-package_is_inside
-unfolding package_inside
-returns-then-not-package_is_inside c = one-fails _ _ _ c.loop-i-test.true (sym c.package_is_inside.ensures ∙ c.if-not-package_is_inside.true)
-
-pub overflow_add-i : goal.overflow_add-i
-overflow_add-i c = omega arith
-
-pub loop-i-smaller : goal.loop-i-smaller
-loop-i-smaller c = omega arith
-
-pub loop-i-preserved : goal.loop-i-preserved
-unfolding package_inside
-loop-i-preserved c =
-    one_more _ _ _ c.loop-i.invariant c.loop-i-test.true (sym c.package_is_inside.ensures ∙ c.if-not-package_is_inside.false)
-
 pub returns : goal.returns
-returns c = all-passed _ _ _ c.loop-i.invariant c.loop-i-test.false
+unfolding package_inside
+returns c =
+    let test = package_inside c.args.m.now in
+    let jobs = c.args.jobs.now in
+    all_from_yields_List test _ _ _ c.all.ensures.ran (YieldsList-from_slice jobs cc) (λ x b q k. search (rules, tests)) ∙ all-listed test 0 jobs (length jobs) refl

@@ -13,5 +13,5 @@ returns-then-c-gt0 c = stopped_none _ _ (ne_eqb c.args.c.stop 0 (λ z. omega (ar
 pub returns : goal.returns
 returns c =
     let pre = c.requires in
-    ap ran_turns c.run.ensures
+    ap ran_turns c.run.ensures.ran
     ∙ ran-is _ _ _ pre (search rules) (omega (arith, c.if-c-gt0.false))

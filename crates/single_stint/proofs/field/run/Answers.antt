@@ -19,17 +19,16 @@ pub turns-o-requires : goal.turns-o-requires
 turns-o-requires c =
     let args = c.args in
     let pre = c.requires in
-    let table = c.table-t in
     record {
       state_kept = rw (place-back args.c.ra args.c.fl) (field-kept _ _ pre (search rules));
       fl_bound = field_room _ _ pre;
-      t_value = table.ensures;
       p_bound = p-short _ _ pre;
     }
 
-pub returns : goal.returns
+pub returns-clause-ran : goal.returns-clause-ran
 unfolding ran_on
-returns c =
+returns-clause-ran c =
     let args = c.args in
     let turns = c.turns-o in
-    rw (place-back args.c.ra args.c.fl, ← rw (place-back args.c.ra args.c.fl) at turns.ensures)
+    let made = rw (place-back args.c.ra args.c.fl) at turns.ensures in
+    rw (place-back args.c.ra args.c.fl, ← made, c.stop_number.ensures)

@@ -4,8 +4,8 @@ use Rattle.whole_calls.specs.Laws.Call.{run-ready, run-carried-out}
 use borrow.Author.Rules.{rules}
 use Rattle.whole_calls.proofs.call.make_rounds.Goals as goal
 
-pub run-made-requires : goal.run-made-requires
-run-made-requires c =
+pub run-rounds-requires : goal.run-rounds-requires
+run-rounds-requires c =
     let args = c.args in
     let pre = c.requires in
     let Numbers-of = c.numbers_of-s in
@@ -16,6 +16,6 @@ pub returns : goal.returns
 returns c =
     let args = c.args in
     let Numbers-of = c.numbers_of-s in
-    let run = c.run-made in
-    let record_of = c.record_of-machine in
+    let run = c.run-rounds in
+    let record_of = c.record_of in
     run-carried-out args.c.now args.m.now args.r _ Numbers-of.ensures _ (machine _ _ _ _) _ run.ensures _ record_of.ensures

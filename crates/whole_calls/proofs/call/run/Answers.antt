@@ -1,19 +1,18 @@
 -- `whole_calls::call::run` meets its contract.
-use mathlib.Core.Path.{sym, ◌∙◌}
+use Rattle.std.proofs.Common.{rules, ◌≡◌, sym, ◌∙◌, Err}
 use Rattle.whole_calls.specs.Call.{left, run_given, run_answer}
 use Rattle.whole_calls.specs.Laws.Call.{carried-out, machine-refused}
 use Rattle.whole_calls.proofs.call.run.Goals as goal
 
-pub make_rounds-o-requires : goal.make_rounds-o-requires
-make_rounds-o-requires c = sym c.run_verdict.ensures ∙ c.in-Accepted.is
+pub make_rounds-requires : goal.make_rounds-requires
+make_rounds-requires c = sym c.run_verdict.ensures ∙ c.in_ok-run_verdict.was
 
-pub returns-in-Accepted : goal.returns-in-Accepted
+pub returns : goal.returns
 unfolding run_answer
-returns-in-Accepted c =
-    let run-verdict = c.run_verdict in
-    let make-rounds = c.make_rounds-o in
-    carried-out run_given _ _ _ (sym run-verdict.ensures ∙ c.in-Accepted.is) (left _ _ _) make-rounds.ensures
+returns c = carried-out run_given _ _ _ (sym c.run_verdict.ensures ∙ c.in_ok-run_verdict.was) (left _ _ _) c.make_rounds.ensures
 
-pub returns-in-Refused : goal.returns-in-Refused
+pub returns-in_err-run_verdict : goal.returns-in_err-run_verdict
 unfolding run_answer
-returns-in-Refused c = machine-refused run_given _ _ _ _ (sym c.run_verdict.ensures ∙ c.in-Refused.is)
+returns-in_err-run_verdict c =
+    let e : c.from_residual.result ≡ Err c.in_err-run_verdict.field-0.0 = search rules in
+    rw e (machine-refused run_given _ _ _ _ (sym c.run_verdict.ensures ∙ c.in_err-run_verdict.was))

@@ -1,21 +1,11 @@
 -- `whole_record::numbers::channels_of` meets its contract.
-use Rattle.base_lists.specs.Indexed.{tabulate}
+use Rattle.std.proofs.Common.{rules, ◌≡◌}
+use Rattle.base_lists.specs.Laws.Tested.{made-tabulated}
+use Rattle.peripheral_machine.specs.Numbers.{channel_of}
+use Rattle.peripheral_channel.specs.Codes.{disconnected}
 use Rattle.whole_record.proofs.numbers.channels_of.Goals as goal
 
 pub returns : goal.returns
-unfolding tabulate
 returns c =
-    rw (
-      c.channel_of.ensures,
-      c.channel_of-2.ensures,
-      c.channel_of-3.ensures,
-      c.channel_of-4.ensures,
-      c.channel_of-5.ensures,
-      c.channel_of-6.ensures,
-      c.channel_of-7.ensures,
-      c.channel_of-8.ensures,
-      c.channel_of-9.ensures,
-      c.channel_of-10.ensures,
-      c.channel_of-11.ensures,
-      c.channel_of-12.ensures,
-    )
+    made-tabulated _ (channel_of c.args.s.now.places) (λ f. f.0.now ≡ c.args.s.now) (λ p q i y h call. search rules) _ _ 12 disconnected (search rules)
+    c.from_fn.ensures.items

@@ -1,19 +1,11 @@
 -- `whole_record::numbers::processors_of` meets its contract.
-use Rattle.base_lists.specs.Indexed.{tabulate}
+use Rattle.std.proofs.Common.{rules, ◌≡◌}
+use Rattle.base_lists.specs.Laws.Tested.{made-tabulated}
+use Rattle.peripheral_machine.specs.Numbers.{processor_of}
+use Rattle.whole_record.specs.Record.{idle}
 use Rattle.whole_record.proofs.numbers.processors_of.Goals as goal
 
 pub returns : goal.returns
-unfolding tabulate
 returns c =
-    rw (
-      c.processor_of.ensures,
-      c.processor_of-2.ensures,
-      c.processor_of-3.ensures,
-      c.processor_of-4.ensures,
-      c.processor_of-5.ensures,
-      c.processor_of-6.ensures,
-      c.processor_of-7.ensures,
-      c.processor_of-8.ensures,
-      c.processor_of-9.ensures,
-      c.processor_of-10.ensures,
-    )
+    made-tabulated _ (processor_of c.args.s.now.places) (λ f. f.0.now ≡ c.args.s.now) (λ p q i y h call. search rules) _ _ 10 idle (search rules)
+    c.from_fn.ensures.items

@@ -14,7 +14,7 @@ central_turn-requires c =
     let pre = c.requires in
     let processors-turn = c.processors_turn in
     let o = after_kept _ pre.k_bound (machine _ _ _ _) pre.machine_kept (machine _ _ _ _) processors-turn.ensures in
-    record { host_accepted = o.host; x_len = o.count; t_value = pre.t_value }
+    record { host_accepted = o.host; x_len = o.count }
 
 pub tick-requires : goal.tick-requires
 tick-requires c =

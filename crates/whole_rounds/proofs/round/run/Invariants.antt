@@ -1,11 +1,8 @@
 -- `whole_rounds::round::run` meets its contract.
-use Prim.Native.Nat.{◌-◌}
 use Rattle.peripheral_machine.specs.Machine.{machine}
 use Rattle.whole_rounds.proofs.Rounds.{RoundsGoing}
 use Rattle.whole_rounds.proofs.round.run.Given as goal
 
 abbrev pub invariant-loop-made : goal.invariant-loop-made
-invariant-loop-made l = RoundsGoing l.k l.n (machine l.initial.m l.initial.c l.initial.x l.initial.s) (machine l.m l.c l.x l.s) l.made
-
-abbrev pub decreases-loop-made : goal.decreases-loop-made
-decreases-loop-made l = l.n - l.made
+invariant-loop-made l =
+    RoundsGoing l.k l.n (machine l.initial.m l.initial.c l.initial.x l.initial.s.places) (machine l.m l.c l.x l.s.places) l.made

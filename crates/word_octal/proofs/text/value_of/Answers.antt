@@ -1,40 +1,25 @@
 -- `word_octal::text::value_of` meets its contract.
-use Prim.Native.Nat.{◌-◌}
+use mathlib.Core.Path.{sym, ◌∙◌}
+use lib.ListN.{get_or}
 use native.Mathlib.Omega.{arith}
-use Rattle.word_octal.specs.Laws.Text.{reading-start, reading-end, reading-room, reading-below, reading-above, reading-next}
+use Rattle.word_octal.specs.Laws.Text.{digit-small, reading-end, reading-room, reading-stop, reading-next}
 use Rattle.word_octal.proofs.text.value_of.Goals as goal
 
-pub loop-i-init : goal.loop-i-init
-loop-i-init c = reading-start _
+pub overflow_mul-value : goal.overflow_mul-value
+overflow_mul-value c = omega (arith, reading-room c.loop-byte.invariant (omega arith))
 
-pub bounds-text-i : goal.bounds-text-i
-bounds-text-i c = omega arith
+pub overflow_add-value : goal.overflow_add-value
+overflow_add-value c =
+    let small = digit-small (get_or c.args.text.now c.loop-byte.byte-index 0) (sym c.octal_digit.ensures ∙ c.in_ok-value.was) in
+    omega (arith, small, reading-room c.loop-byte.invariant (omega arith))
 
-pub returns-then-byte-lt48 : goal.returns-then-byte-lt48
-returns-then-byte-lt48 c = reading-below c.loop-i.invariant c.loop-i-test.true (omega (arith, c.if-byte-lt48.true))
+pub returns-in_err-value : goal.returns-in_err-value
+returns-in_err-value c =
+    c.from_residual.ensures ∙ reading-stop c.loop-byte.invariant c.loop-byte-test.true (sym c.octal_digit.ensures ∙ c.in_err-value.was)
 
-pub returns-then-byte-gt55 : goal.returns-then-byte-gt55
-returns-then-byte-gt55 c =
-    reading-above c.loop-i.invariant c.loop-i-test.true c.if-byte-lt48.false (omega (arith, c.if-byte-gt55.true))
-
-pub overflow_mul-v : goal.overflow_mul-v
-overflow_mul-v c = omega (arith, reading-room c.loop-i.invariant (omega arith))
-
-pub overflow_cast-v : goal.overflow_cast-v
-overflow_cast-v c = omega arith
-
-pub overflow_add-v : goal.overflow_add-v
-overflow_add-v c = omega (arith, reading-room c.loop-i.invariant (omega arith))
-
-pub overflow_add-i : goal.overflow_add-i
-overflow_add-i c = omega arith
-
-pub loop-i-smaller : goal.loop-i-smaller
-loop-i-smaller c = omega arith
-
-pub loop-i-preserved : goal.loop-i-preserved
-loop-i-preserved c =
-    reading-next c.loop-i.invariant c.loop-i-test.true c.if-byte-lt48.false c.if-byte-gt55.false
+pub loop-byte-preserved : goal.loop-byte-preserved
+loop-byte-preserved c =
+    reading-next c.loop-byte.invariant c.loop-byte-test.true (sym c.octal_digit.ensures ∙ c.in_ok-value.was)
 
 pub returns : goal.returns
-returns c = reading-end c.loop-i.invariant c.loop-i-test.false
+returns c = reading-end c.loop-byte.invariant c.loop-byte-test.false

@@ -1,5 +1,0 @@
--- `central_effect::rows::branch` meets its contract.
-use Rattle.central_effect.proofs.rows.branch.Goals as goal
-
-pub returns : goal.returns
-returns c = rw (← c.decode-q.ensures.is) c.effect_of.ensures

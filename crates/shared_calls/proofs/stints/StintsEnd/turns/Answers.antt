@@ -1,0 +1,14 @@
+-- `shared_calls::stints::StintsEnd::turns` meets its contract.
+use Rattle.std.proofs.Common.{rules, ◌≡◌, ◌∙◌, ℕ, get_or, None}
+use Rattle.base_lists.specs.Laws.Tested.{made-tabulated}
+use Rattle.shared_calls.specs.Laws.Stints.{tabulate-map}
+use Rattle.shared_calls.specs.declared.stints.StintResult.{StintResult}
+use Rattle.shared_calls.proofs.stints.StintsEnd.turns.Goals as goal
+
+pub returns : goal.returns
+returns c =
+    let none : StintResult = record { turns = 0; stop = None } in
+    let results = c.args.self.now.results in
+    let entry = λ (i : ℕ). (get_or results i none).turns in
+    made-tabulated _ entry (λ f. f.0.now ≡ c.args.self.now) (λ p q i y h call. search rules) _ _ 256 0 (search rules) c.from_fn.ensures.items
+    ∙ tabulate-map (λ (r : StintResult). r.turns) none 256 results (search rules)

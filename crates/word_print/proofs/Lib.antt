@@ -1,0 +1,2 @@
+-- What digits leave of the text into which they are written.
+pub mod Field
