@@ -21,7 +21,6 @@ REASONS = [
     ("1c", "peripheral_channel/record.rt", "Channel", "two flags and a word of a device, not an Option"),
     ("1c", "floating_", "Sum|Number|Total|Aligned", "a sign beside a size: both signs have one"),
     ("1c", "whole_device/calls.rt", "Taken", "both are always there: the word, and whether it is a function"),
-    ("2a", "word_print/print.rt", "word|short", "the names of the two widths of one generic function"),
     ("1b", "peripheral_machine/effect.rt", "PeripheralEffect", "to wait is what a code asks for, not a failure"),
     ("1a", "check_console/cases.rt", "Marker", "how much of a marker was seen, and which kind of line it ends: neither is a failure"),
     ("1d", "exchange_package|whole_record", "control|number_of", "the number of a place in a package or a record"),

@@ -6,6 +6,11 @@
 mod edges;
 mod results;
 
+// A write that fails is passed over: the comparison with the expected output finds what is missing.
+fn show(output: &impl Print, text: &[u8]) {
+    let _ = output.write_all(text);
+}
+
 fn main(rt: HostRuntime) {
     let words = edges::edges();
     for xj in words {

@@ -1,7 +1,8 @@
 // 22 and 23, by Bj of edge magnitudes.
 use super::operand::{Operand, Value, Word};
+use super::show;
 use word_arithmetic::sums::complement;
-use word_print::print as show;
+use word_print::text;
 use word_shift::nominal::nominal;
 
 // Counts below 60, 60 to 63, 64 and 65, other multiples of 64 with neighbours, and the greatest magnitude.
@@ -15,11 +16,11 @@ pub(crate) fn magnitudes() -> [Value; 16] {
 }
 
 fn shift(output: &impl Print, b: Value, x: Word) {
-    show::short(output, b.bits);
-    show::word(output, x.bits);
-    show::word(output, nominal(true, b.bits, x.bits));
-    show::word(output, nominal(false, b.bits, x.bits));
-    show::end_line(output);
+    show(output, &text::short(b.bits));
+    show(output, &text::word(x.bits));
+    show(output, &text::word(nominal(true, b.bits, x.bits)));
+    show(output, &text::word(nominal(false, b.bits, x.bits)));
+    show(output, b"\n");
 }
 
 // By the magnitude itself, and by its complement.

@@ -2,12 +2,13 @@
 ghost use Rattle.std.specs.Prelude.{◌<◌};
 
 use super::operand::{Operand, Word};
+use super::show;
 use central_condition::conditions::word_condition;
 use central_decode::instruction::{Instruction, decode};
 use word_arithmetic::logic::logical;
 use word_arithmetic::sums::{complement, difference, is_negative, low, magnitude, sum};
 use word_fields::fields::{from_parts, part};
-use word_print::print as show;
+use word_print::text;
 use word_shift::floating::unpack;
 use word_shift::shifts::{count_ones, mask, rotate_left, shift_right_signed};
 
@@ -31,36 +32,36 @@ pub(crate) fn edges() -> [Word; 12] {
 }
 
 pub(crate) fn pair(output: &impl Print, a: Word, b: Word) {
-    show::word(output, a.bits);
-    show::word(output, b.bits);
-    show::word(output, sum::<60>(a.bits, b.bits));
-    show::word(output, difference::<60>(a.bits, b.bits));
+    show(output, &text::word(a.bits));
+    show(output, &text::word(b.bits));
+    show(output, &text::word(sum::<60>(a.bits, b.bits)));
+    show(output, &text::word(difference::<60>(a.bits, b.bits)));
     for m in 0..8 {
-        show::word(output, logical(m, a.bits, b.bits));
+        show(output, &text::word(logical(m, a.bits, b.bits)));
     }
-    show::end_line(output);
+    show(output, b"\n");
 }
 
 pub(crate) fn shift(output: &impl Print, w: Word, k: u64)
     requires { k < 64 }
 {
-    show::word(output, w.bits);
-    show::short(output, k);
-    show::word(output, rotate_left::<60>(w.bits, k));
-    show::word(output, shift_right_signed::<60>(w.bits, k));
-    show::word(output, mask::<60>(k));
-    show::end_line(output);
+    show(output, &text::word(w.bits));
+    show(output, &text::short(k));
+    show(output, &text::word(rotate_left::<60>(w.bits, k)));
+    show(output, &text::word(shift_right_signed::<60>(w.bits, k)));
+    show(output, &text::word(mask::<60>(k)));
+    show(output, b"\n");
 }
 
 // The digits f m i j k, the code and jk.
 fn digits(output: &impl Print, q: Instruction) {
-    show::short(output, q.code / 8);
-    show::short(output, q.code % 8);
-    show::short(output, q.i as u64);
-    show::short(output, q.j as u64);
-    show::short(output, q.k as u64);
-    show::short(output, q.code);
-    show::short(output, q.jk);
+    show(output, &text::short(q.code / 8));
+    show(output, &text::short(q.code % 8));
+    show(output, &text::short(q.i as u64));
+    show(output, &text::short(q.j as u64));
+    show(output, &text::short(q.k as u64));
+    show(output, &text::short(q.code));
+    show(output, &text::short(q.jk));
 }
 
 // The instruction at each of the four places, and K where there is one.
@@ -75,13 +76,13 @@ fn instructions(output: &impl Print, w: u64) {
         digits(output, q);
     }
     for q in &all[..3] {
-        show::short(output, q.constant);
+        show(output, &text::short(q.constant));
     }
 }
 
 fn parts(output: &impl Print, w: u64) {
     for place in 0..5 {
-        show::short(output, part(w, place));
+        show(output, &text::short(part(w, place)));
     }
 }
 
@@ -92,22 +93,22 @@ fn reversed(w: u64) -> u64 {
 
 pub(crate) fn alone(output: &impl Print, word: Word) {
     let w = word.bits;
-    show::word(output, w);
-    show::word(output, complement::<60>(w));
-    show::word(output, magnitude::<60>(w));
-    show::short(output, low::<18>(w));
-    show::short(output, low::<12>(w));
-    show::short(output, count_ones::<60>(w));
+    show(output, &text::word(w));
+    show(output, &text::word(complement::<60>(w)));
+    show(output, &text::word(magnitude::<60>(w)));
+    show(output, &text::short(low::<18>(w)));
+    show(output, &text::short(low::<12>(w)));
+    show(output, &text::short(count_ones::<60>(w)));
     let u = unpack(w);
-    show::word(output, u.coefficient);
-    show::short(output, u.exponent);
-    show::flag(output, is_negative::<60>(w));
+    show(output, &text::word(u.coefficient));
+    show(output, &text::short(u.exponent));
+    show(output, &text::flag(is_negative::<60>(w)));
     for i in 0..8 {
-        show::flag(output, word_condition(i, w));
+        show(output, &text::flag(word_condition(i, w)));
     }
-    show::end_line(output);
+    show(output, b"\n");
     instructions(output, w);
     parts(output, w);
-    show::word(output, reversed(w));
-    show::end_line(output);
+    show(output, &text::word(reversed(w)));
+    show(output, b"\n");
 }

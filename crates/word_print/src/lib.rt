@@ -1,5 +1,4 @@
-// Octal digits on standard output, for programs whose output is compared with a stored text.
+// Numbers of a fixed width in octal digits and flags as text, for programs whose output is compared with a stored one.
 #![tactic(auto)]
 
-pub mod print;
 pub mod text;

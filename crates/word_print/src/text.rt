@@ -17,13 +17,27 @@ fn begin(out: &mut [u8], k: usize, n: u64)
 
 // The last N - 1 digits of n and a space.
 #[tactic(auto, using(crate::proofs::Field::before_the_last))]
-pub fn field<const N: usize>(n: u64) -> [u8; N]
+fn field<const N: usize>(n: u64) -> [u8; N]
     requires { (0 < N) × (N ≤ 23) }
     ensures { result ≡ digits (N - 1) n ++ (32 ∷ []) }
 {
     let mut text = [b' '; N];
     begin(&mut text, N - 1, n);
     text
+}
+
+// A word of 60 bits and a space.
+pub fn word(n: u64) -> [u8; 21]
+    ensures { result ≡ digits 20 n ++ (32 ∷ []) }
+{
+    field::<21>(n)
+}
+
+// A value of 18 bits and a space.
+pub fn short(n: u64) -> [u8; 7]
+    ensures { result ≡ digits 6 n ++ (32 ∷ []) }
+{
+    field::<7>(n)
 }
 
 // 1 for true, 0 for false.
