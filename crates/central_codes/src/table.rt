@@ -534,15 +534,17 @@ const TABLE: [u8; 512] = [
     FIT_15, // 777
 ];
 
-// The table of all codes.
-#[derive(Drop)]
+// A table of all codes: any array that follows the rule is one.
+#[derive(Clone, Copy)]
 pub struct CodeTable {
-    entries: [u8; 512],
+    pub entries: [u8; 512],
     ghost by_rule: { follows_rule entries ≡ true },
 }
 
 // The table, to be lent to the turns: named inside a turn, a constant array would be built again at every use.
-pub fn table() -> CodeTable {
+pub fn table() -> CodeTable
+    ensures { follows_rule result.entries ≡ true }
+{
     CodeTable { entries: TABLE }
 }
 

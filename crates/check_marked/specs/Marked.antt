@@ -5,7 +5,7 @@ use Rattle.base_outcome.specs.declared.stop.CentralStop.TheVariants as Because
 use Rattle.central_field.specs.declared.address.Bounds.{Bounds}
 use Rattle.central_registers.specs.Registers.{b_of, x_of, set_b, set_x}
 use Rattle.central_apply.specs.State.{State, state}
-use Rattle.central_turn.specs.Turn.{turned, turn_end, word_run, turn_of}
+use Rattle.central_turn.specs.Turn.{stop_number, turned, turn_end, word_run, turn_of}
 use Rattle.peripheral_machine.specs.Numbers.{processor_of, advanced}
 use Rattle.peripheral_machine.specs.Machine.{Machine, machine}
 use Rattle.peripheral_codes.specs.Addresses.{word_at, onward}
@@ -62,5 +62,6 @@ pub record Marked : Type 0 where
   pub unpacked : (i j k : ℕ) (r : List ℕ) → x_of r k ≡ 0o17760000000000000005 → TurnLeaves 0o26 i j k r (set_b (set_x r i 5) j 0o777776)
   -- "P = FL - 1 fetches": the turn is that of the word there
   pub last_word : (b : Bounds) (s : State) → 0 < b.fl → turn_of b (b.fl - 1) s ≡ word_run b (b.fl - 1) (get_or s.field (b.fl - 1) 0) s
-  -- "P = FL stops with 3", the number of FetchOutside, and nothing else changes
-  pub past-last-word : (b : Bounds) (s : State) → turn_of b b.fl s ≡ turned s (turn_end b.fl (Some Because.FetchOutside))
+  -- "P = FL stops with 3", and nothing else changes
+  pub past-last-word : (b : Bounds) (s : State)
+      → (turn_of b b.fl s ≡ turned s (turn_end b.fl (Some Because.FetchOutside))) × (stop_number (Some Because.FetchOutside) ≡ 3)

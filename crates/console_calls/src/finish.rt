@@ -4,7 +4,6 @@ ghost use Rattle.base_lists.specs.Written.{Wrote};
 ghost use Rattle.base_outcome.specs.Numbers.{refusal_number};
 ghost use Rattle.console_answer.specs.Text.{refused_text};
 ghost use Rattle.console_grammar.specs.Held.{lists};
-ghost use Rattle.console_grammar.specs.Lent.{lists_in, SameLent};
 ghost use Rattle.console_reader.specs.Fed.{ReaderReady};
 ghost use Rattle.console_reader.specs.Reader.{read_at_end};
 ghost use Rattle.console_calls.specs.Finish.{output_number, written, finished, finish_to, finish_answer};
@@ -12,8 +11,7 @@ ghost use Rattle.console_calls.specs.Finish.{output_number, written, finished, f
 use super::run::run;
 use base_outcome::refusal::{Refusal, verdict_number};
 use console_answer::refused::write_refused;
-use console_grammar::lent::Lent;
-use console_reader::reader::Reader;
+use console_reader::reader::{Reader, reader_verdict};
 use shared_limits::limits::MOST_STINTS;
 use word_octal::write::Writer;
 
@@ -38,8 +36,6 @@ fn print_refused(refusal: Refusal, out: &mut [u8]) -> usize
 }
 
 // Answers the input of a reader that no number refuses.
-// Kept: four slices and not `lent`: where a part of a list is read through the struct's `&mut`, nothing says that the list is unchanged
-// afterwards, and the proof of clause `same_lists` of `finish` did not close (tried).
 #[tactic(auto, unfolding(crate::specs::Finish::written_to, crate::specs::Finish::finished_memory))]
 fn answer_input(
     reader: Reader,
@@ -72,18 +68,20 @@ fn answer_input(
 }
 
 // Answers the input that a reader has read: how much of the buffer the answer takes up.
+// Kept: four slices and no `Lent`, which asks for leave to write: a caller may have the lists to read alone.
 #[tactic(auto, unfolding(crate::specs::Finish::finish_answer))]
-pub fn finish(reader: Reader, lent: &mut Lent, out: &mut [u8]) -> Result<usize, Refusal>
+pub fn finish(
+    reader: Reader,
+    memory: &mut [u64],
+    jobs: &[u64],
+    stint_jobs: &[u64],
+    stint_turns: &[u64],
+    out: &mut [u8],
+) -> Result<usize, Refusal>
     ensures within { IfOk result (λ n. n ≤ length out.new) }
-    ensures answered { finished (written result out.new) lent.new.memory.now
-        ≡ finish_answer reader lent.old.memory.now (lists_in lent.old) out.old }
-    ensures same_lists { lists_in lent.new ≡ lists_in lent.old }
-    ensures same { SameLent lent.old lent.new }
+    ensures answered { finished (written result out.new) memory.new
+        ≡ finish_answer reader memory.old (lists jobs.now stint_jobs.now stint_turns.now) out.old }
 {
-    reader.verdict(lent)?;
-    let memory = &mut *lent.memory;
-    let jobs = &mut *lent.jobs;
-    let stint_jobs = &mut *lent.stint_jobs;
-    let stint_turns = &mut *lent.stint_turns;
+    reader_verdict(reader, memory, jobs, stint_jobs, stint_turns)?;
     answer_input(reader, memory, jobs, stint_jobs, stint_turns, out)
 }

@@ -23,5 +23,11 @@ pub fn answer(input: &[u8], out: &mut [u8]) -> Result<usize, Refusal>
         stint_turns: &mut stint_turns,
     };
     let reader = Reader::new().feed(input, &mut lent)?;
-    finish(reader, &mut lent, out)
+    let Lent {
+        memory,
+        jobs,
+        stint_jobs,
+        stint_turns,
+    } = lent;
+    finish(reader, memory, jobs, stint_jobs, stint_turns, out)
 }

@@ -1,5 +1,6 @@
 // Reads an input line by line, so that one of any length needs no more than the lent memory.
 ghost use Rattle.std.specs.Prelude.{◌≡◌};
+ghost use Rattle.console_grammar.specs.Held.{lists};
 ghost use Rattle.console_grammar.specs.Lent.{lists_in, SameLent};
 ghost use Rattle.console_reader.specs.Reader.{reader_state, empty_reader, bytes_fed, lists_long, reader_fits, reader_verdict, feed_answer_to, feed_answer, is_complete};
 ghost use Rattle.console_reader.specs.Fed.{ReaderReady};
@@ -22,12 +23,36 @@ pub struct Reader {
     pub length: usize,
 }
 
-fn lists_long(lent: &Lent) -> bool
-    ensures { result ≡ lists_long (lists_in lent.now) }
+fn lists_long(jobs: &[u64], stint_jobs: &[u64], stint_turns: &[u64]) -> bool
+    ensures { result ≡ lists_long (lists jobs.now stint_jobs.now stint_turns.now) }
 {
-    lent.jobs.len() == JOB_ENTRIES
-        && lent.stint_jobs.len() == STINT_ENTRIES
-        && lent.stint_turns.len() == STINT_ENTRIES
+    jobs.len() == JOB_ENTRIES
+        && stint_jobs.len() == STINT_ENTRIES
+        && stint_turns.len() == STINT_ENTRIES
+}
+
+// Numbers 1, 5 and 6: whether the memory and the lists have their room, and the reader's counts are within it.
+// Kept: four slices and no `Lent`, which asks for leave to write: a caller may have them to read alone.
+#[tactic(auto, unfolding(crate::specs::Reader::reader_verdict))]
+pub fn reader_verdict(
+    reader: Reader,
+    memory: &[u64],
+    jobs: &[u64],
+    stint_jobs: &[u64],
+    stint_turns: &[u64],
+) -> Result<(), Refusal>
+    ensures { result ≡ reader_verdict reader memory.now (lists jobs.now stint_jobs.now stint_turns.now) }
+{
+    if memory.len() != MEMORY_WORDS {
+        return Err(Refusal::CentralLength);
+    }
+    if !reader.fits() {
+        return Err(Refusal::RecordValue);
+    }
+    if !lists_long(jobs, stint_jobs, stint_turns) {
+        return Err(Refusal::ListLength);
+    }
+    Ok(())
 }
 
 impl Reader {
@@ -90,21 +115,15 @@ impl Reader {
             && self.length <= 32
     }
 
-    // Numbers 1, 5 and 6: whether the lent memory and lists have their room, and the reader's counts are within it.
-    #[tactic(auto, unfolding(crate::specs::Reader::reader_verdict))]
+    // The same of what is lent to be written.
     pub fn verdict(self, lent: &Lent) -> Result<(), Refusal>
         ensures { result ≡ reader_verdict self lent.now.memory.now (lists_in lent.now) }
     {
-        if lent.memory.len() != MEMORY_WORDS {
-            return Err(Refusal::CentralLength);
-        }
-        if !self.fits() {
-            return Err(Refusal::RecordValue);
-        }
-        if !lists_long(lent) {
-            return Err(Refusal::ListLength);
-        }
-        Ok(())
+        let memory = &*lent.memory;
+        let jobs = &*lent.jobs;
+        let stint_jobs = &*lent.stint_jobs;
+        let stint_turns = &*lent.stint_turns;
+        reader_verdict(self, memory, jobs, stint_jobs, stint_turns)
     }
 
     // Reads the next bytes of the input.

@@ -24,5 +24,11 @@ pub fn reason(input: &[u8], out: &mut [u8]) -> Result<usize, Refusal>
         stint_turns: &mut stint_turns,
     };
     let tracker = Tracker::new().track(input, &mut lent)?;
-    explain(tracker, &lent, out)
+    let Lent {
+        memory,
+        jobs,
+        stint_jobs,
+        stint_turns,
+    } = lent;
+    explain(tracker, memory, jobs, stint_jobs, stint_turns, out)
 }

@@ -4,7 +4,7 @@ ghost use Rattle.floating_word.specs.Halves.{whole, halves_of};
 
 use word_arithmetic::sums::low;
 
-// Their order is that of the sizes.
+// Where the lower half has 48 bits, their order is that of the sizes.
 #[derive(Clone, Copy, PartialEq, Eq, PartialOrd, Ord)]
 pub struct Halves {
     pub high: u64,

@@ -49,7 +49,7 @@ const CLOCK: usize = 83;
 // The numbers, by place.
 // Kept: numbers by place and no arrays of structs, since the definitions of a turn are of this list (`processor_of`, `channel_of` and the
 // others of specs/Numbers.antt), and `record-again` of whole_record says that the record loses nothing in it.
-#[derive(Drop)]
+#[derive(Clone, Copy)]
 pub struct Numbers {
     pub places: [u64; 84],
 }

@@ -60,20 +60,22 @@ pub(crate) fn run_stints(
     ensures { stints_to m.new result
         ≡ in_arrays (stints_of jobs.now stint_jobs.now stint_turns.now m.old c) }
 {
-    let mut central = c;
-    let mut results = [StintResult {
-        turns: 0,
-        stop: None,
-    }; MOST_STINTS];
+    let mut end = StintsEnd {
+        central: c,
+        results: [StintResult {
+            turns: 0,
+            stop: None,
+        }; MOST_STINTS],
+    };
     for k in 0..stint_jobs.len() {
         let at = package_of(jobs, stint_jobs[k]);
         let n = stint_turns[k];
-        let o = stint(m, central, at, n);
-        central = o.central;
-        results[k] = StintResult {
+        let o = stint(m, end.central, at, n);
+        end.central = o.central;
+        end.results[k] = StintResult {
             turns: o.turns,
             stop: o.stop,
         };
     }
-    StintsEnd { central, results }
+    end
 }

@@ -9,9 +9,15 @@ use console_stream::answer::{write_answer, write_unended};
 use console_stream::pieces::fold_pieces;
 use std::process::ExitCode;
 
-fn answer_input(rt: &(impl Print + Eprint), reader: Reader, lent: &mut Lent) -> ExitCode {
+fn answer_input(rt: &(impl Print + Eprint), reader: Reader, lent: Lent) -> ExitCode {
+    let Lent {
+        memory,
+        jobs,
+        stint_jobs,
+        stint_turns,
+    } = lent;
     let mut out = [0; OUTPUT_BYTES];
-    match finish(reader, lent, &mut out) {
+    match finish(reader, memory, jobs, stint_jobs, stint_turns, &mut out) {
         Ok(n) => write_answer(rt, &out[..n]),
         // Of slices with the lengths that `main` gives them, no number refuses one.
         Err(_) => ExitCode::SUCCESS,
@@ -36,5 +42,5 @@ fn main(rt: HostRuntime) -> ExitCode {
     let Ok(reader) = read else {
         return write_unended(&rt);
     };
-    answer_input(&rt, reader, &mut lent)
+    answer_input(&rt, reader, lent)
 }

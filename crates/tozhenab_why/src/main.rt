@@ -10,9 +10,15 @@ use console_stream::pieces::fold_pieces;
 use console_unreadable::tracker::Tracker;
 use std::process::ExitCode;
 
-fn write_reason(rt: &(impl Print + Eprint), tracker: Tracker, lent: &Lent) -> ExitCode {
+fn write_reason(rt: &(impl Print + Eprint), tracker: Tracker, lent: Lent) -> ExitCode {
+    let Lent {
+        memory,
+        jobs,
+        stint_jobs,
+        stint_turns,
+    } = lent;
     let mut out = [0; REASON_BYTES];
-    match explain(tracker, lent, &mut out) {
+    match explain(tracker, memory, jobs, stint_jobs, stint_turns, &mut out) {
         Ok(n) => write_answer(rt, &out[..n]),
         // Of slices with the lengths that `main` gives them, no number refuses one.
         Err(_) => ExitCode::SUCCESS,
@@ -37,5 +43,5 @@ fn main(rt: HostRuntime) -> ExitCode {
     let Ok(tracker) = read else {
         return write_unended(&rt);
     };
-    write_reason(&rt, tracker, &lent)
+    write_reason(&rt, tracker, lent)
 }

@@ -1,5 +1,5 @@
 -- All marked results hold: by what a turn of each code leaves, the rest is computed by the checker.
-use Rattle.std.specs.Prelude.{◌≡◌, ℕ, ◌-◌, ◌^◌, ◌≤◌, ◌<◌}
+use Rattle.std.specs.Prelude.{◌≡◌, refl, ℕ, ◌-◌, ◌^◌, ◌≤◌, ◌<◌}
 use Rattle.std.proofs.Common.{arith, le-leb, lt-ltb, le-ltb, lit<}
 use Rattle.std.specs.Int.Count.{ones_in}
 use Rattle.word_arithmetic.specs.Sums.{magnitude, sum}
@@ -34,5 +34,5 @@ marked =
       return-jump = λ b r f rest l m at. turn-010 2 rest (lit< tt) m b 0 r f (omega arith) l at;
       unpacked = λ i j k r x. turn-26 x;
       last_word = λ b s h. rw (lt-ltb (b.fl - 1) b.fl (omega arith), place-back b.ra (b.fl - 1));
-      past-last-word = λ b s. rw (le-ltb b.fl b.fl (omega arith));
+      past-last-word = λ b s. (rw (le-ltb b.fl b.fl (omega arith)), refl);
     }

@@ -25,7 +25,7 @@ pub length_octal : (v : ℕ) → length (octal v) ≤ 22
 unfolding octal
 length_octal v = rw length_digits (width-le 21 v)
 
--- the loop of `write_digits`, with k of n digits left
+-- the loop of `Writer::digits`, with k of n digits left
 pub digits-total : {before out : List ℕ} {at i : ℕ} (n v k : ℕ) → Writing before at (digits n v) out i (digits k v)
     → i + k ≡ at + n
 digits-total n v k g = omega (arith, g.total, length_digits n v, length_digits k v)

@@ -10,10 +10,10 @@ returns-then-res-stints c =
 
 pub returns-in-Ok : goal.returns-in-Ok
 returns-in-Ok c =
-    schedule-made _ _ _ _ _ _ _ c.lent-c.ensures 0 _ _ _ _ _ (omega (arith, c.if-res-stints.false)) c.schedule.ensures c.store_stints.ensures
-    _ c.in-Ok.is c.turns.ensures c.stops.ensures
+    schedule-made _ _ _ _ _ _ _ c.lent-c.ensures 0 _ _ _ _ _ (omega (arith, c.if-res-stints.false)) c.schedule.ensures c.store_results.ensures
+    _ c.in-Ok.is refl refl
 
 pub returns-in-Err : goal.returns-in-Err
 returns-in-Err c =
     schedule-refused _ _ _ _ _ _ _ c.lent-c.ensures _ _ _ _ _ _ (omega (arith, c.if-res-stints.false)) c.schedule.ensures
-    c.store_stints-in-Err.ensures _ c.in-Err.is c.number.ensures refl refl
+    c.store_none.ensures _ c.in-Err.is c.number.ensures refl refl

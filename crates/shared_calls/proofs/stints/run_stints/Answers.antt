@@ -17,8 +17,8 @@ pub stint-o-requires : goal.stint-o-requires
 stint-o-requires c =
     stint-allowed _ _ _ _ _ _ _ _ _ _ c.loop-k.invariant _ (omega (arith, c.loop-k-test.true)) _ c.package_of-at.ensures
 
-pub bounds-results-k : goal.bounds-results-k
-bounds-results-k c =
+pub bounds-end-k : goal.bounds-end-k
+bounds-end-k c =
     omega (arith, c.loop-k.invariant.may.most, c.loop-k-test.true)
 
 pub loop-k-preserved : goal.loop-k-preserved

@@ -5,4 +5,4 @@ use Rattle.shared_calls.proofs.stints.run_stints.Given as goal
 
 abbrev pub invariant-loop-k : goal.invariant-loop-k
 invariant-loop-k l =
-    StintsGoing l.jobs l.stint_jobs l.stint_turns l.initial.m l.initial.central l.m l.central (turns_in l.results) (stops_in l.results) l.k
+    StintsGoing l.jobs l.stint_jobs l.stint_turns l.initial.m l.initial.end.central l.m l.end.central (turns_in l.end.results) (stops_in l.end.results) l.k
